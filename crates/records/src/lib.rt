@@ -1,0 +1,6 @@
+// Bytes become values and values become bytes: the limits, refusals, little-endian numbers, and the records of document 01.
+pub mod bytes;
+pub mod limits;
+pub mod refusal;
+pub mod room;
+pub mod settings;
