@@ -1,3 +1,5 @@
 -- The laws of this crate that others cite.
 pub mod Numbers
+pub mod Products
 pub mod Window
+pub mod Zeros

@@ -1,7 +1,10 @@
 -- Little-endian numbers: the lowest byte first.
 use Prim.Native.Nat.{ℕ, zero, suc, _+_, _*_, _/_, _%_, _<_}
 use mathlib.Core.List.{List, [], _∷_}
-use lib.ListN.{length, getD}
+use mathlib.Core.Bool.{Bool, true, _&&_}
+use mathlib.Core.List.{_++_}
+use lib.ListN.{length, getD, take, drop}
+use lib.Dec.{eqb}
 
 -- the number that bytes are
 unfoldable pub number : List ℕ → ℕ
@@ -25,3 +28,12 @@ numberAt w s i = number (part w s i)
 -- each of them is a byte
 unfoldable pub Bytes : List ℕ → Type 0
 Bytes s = (i : ℕ) → getD s i 0 < 256
+
+-- the `w` bytes of `s` from `i` on are 0
+unfoldable pub areZero : ℕ → List ℕ → ℕ → Bool
+areZero zero s i = true
+areZero (suc w) s i = eqb (getD s i 0) 0 && areZero w s (suc i)
+
+-- `s` with `bs` from `i` on; the bytes before and behind them stay
+unfoldable pub placed : List ℕ → ℕ → List ℕ → List ℕ
+placed s i bs = take i s ++ (bs ++ drop (i + length bs) s)

@@ -1,4 +1,6 @@
 pub mod Bytes
+pub mod Frame
+pub mod Interval
 pub mod Limits
 pub mod Refusals
 pub mod Room

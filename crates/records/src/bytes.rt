@@ -5,7 +5,7 @@ ghost use Prim.Native.Nat.{_+_, _*_};
 ghost use mathlib.Core.List.{[], _∷_};
 ghost use lib.ListN.{getD, set};
 ghost use lib.Seq.{sets};
-ghost use Rattle.records.specs.Bytes.{number, numberAt, bytesOf};
+ghost use Rattle.records.specs.Bytes.{number, numberAt, bytesOf, areZero};
 
 // The byte at `i`.
 pub fn get_u8(s: &[u8], i: usize) -> u8
@@ -37,6 +37,24 @@ pub fn get_u64(s: &[u8], i: usize) -> u64
         return 0;
     }
     of_halves(get_u32(s, i), get_u32(s, i + 4))
+}
+
+// Whether the `count` bytes from `i` on are 0.
+pub fn are_zero(s: &[u8], i: usize, count: usize) -> bool
+    ensures { λ r. ⌜ r ≡ areZero count (now (s .entry)) i ⌝ }
+{
+    let mut all = true;
+    let mut at = i;
+    let mut left = count;
+    while 0 < left {
+        if s.len() <= at {
+            return all;
+        }
+        all = all & (s[at] == 0);
+        at += 1;
+        left -= 1;
+    }
+    all
 }
 
 // Four bytes, the lowest first, as a number.

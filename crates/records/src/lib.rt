@@ -1,5 +1,7 @@
 // Bytes become values and values become bytes: the limits, refusals, little-endian numbers, and the records of document 01.
 pub mod bytes;
+pub mod frame;
+pub mod interval;
 pub mod limits;
 pub mod refusal;
 pub mod room;

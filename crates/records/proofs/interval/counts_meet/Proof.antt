@@ -1,0 +1,18 @@
+-- `records::interval::counts_meet` meets its contract: it is the rules, one after the other.
+-- Assumes nothing.
+use mathlib.Core.Path.{refl}
+use Rattle.records.specs.Interval.{countsMeet}
+use Rattle.records.specs.Limits.{intervals, frames}
+use borrow.Author.Needs.{needs}
+use Rattle.records.proofs.interval.counts_meet.Statement.{statement}
+use Rattle.records.proofs.interval.counts_meet.Tie as tie
+
+delivered-requires : tie.Need-delivered-requires
+delivered-requires c κs = search needs
+
+returns : tie.Need-returns
+unfolding countsMeet intervals frames
+returns c = rw (c .before .before .before .before .before .before .before .delivered .ensures) refl
+
+pub counts-meet-spec : {M : Type 1} → statement M
+counts-meet-spec = tie.close (tie.spec delivered-requires returns)

@@ -1,0 +1,48 @@
+// The frame record, 16 bytes.
+use crate::bytes;
+use crate::limits;
+ghost use mathlib.Core.Path.{_≡_};
+ghost use Rattle.records.specs.Frame.{frameIn, frameOf};
+
+pub struct Frame {
+    // ingress time, in ns since the start of interval 0
+    pub time: u64,
+    // in ns, 0 where the frame is lost
+    pub delay: u32,
+    pub lost: bool,
+}
+
+pub enum FrameRead {
+    Valid(Frame),
+    Invalid,
+}
+
+// The values that stand in `s`.
+fn frame_in(s: &[u8]) -> Frame
+    ensures { λ r. ⌜ r ≡ frameIn (now (s .entry)) ⌝ }
+{
+    Frame {
+        time: bytes::get_u64(s, 0),
+        delay: bytes::get_u32(s, 8),
+        lost: bytes::get_u8(s, 12) == 1,
+    }
+}
+
+// The frame in `s`, if it is 16 bytes and meets every rule.
+pub fn read(s: &[u8]) -> FrameRead
+    ensures { λ r. ⌜ r ≡ frameOf (now (s .entry)) ⌝ }
+{
+    if s.len() != 16 {
+        return FrameRead::Invalid;
+    }
+    let v = frame_in(s);
+    if (v.delay <= limits::LARGEST_DELAY)
+        & (bytes::get_u8(s, 12) <= 1)
+        & bytes::are_zero(s, 13, 3)
+        & (!v.lost | (v.delay == 0))
+    {
+        FrameRead::Valid(v)
+    } else {
+        FrameRead::Invalid
+    }
+}

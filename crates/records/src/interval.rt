@@ -1,0 +1,108 @@
+// The interval record, 48 bytes: its values, its rules, read and written; and a slice of many of them.
+use crate::bytes;
+use crate::limits;
+use crate::room;
+ghost use mathlib.Core.Path.{_≡_};
+ghost use Prim.Native.Nat.{_-_, _*_};
+ghost use mathlib.Core.Bool.{cond};
+ghost use lib.ListN.{length};
+ghost use lib.Seq.{sets};
+ghost use Rattle.records.specs.Room.{hasRoom};
+ghost use Rattle.records.specs.Bytes.{placed};
+ghost use Rattle.records.specs.Interval.{intervalIn, intervalMeets, intervalOf, intervalBytes, countsMeet, delaysMeet};
+
+pub struct Interval {
+    pub number: u32,
+    pub sent: u32,
+    pub lost: u32,
+    // delivered, with a delay above DL
+    pub late: u32,
+    // consecutive frames, both delivered
+    pub pairs: u32,
+    // pairs whose delays differ by more than Jt
+    pub jumpy: u32,
+    // delay sum, least and most of the delivered, in ns
+    pub sum: u64,
+    pub least: u32,
+    pub most: u32,
+    pub maintenance: bool,
+}
+
+pub enum IntervalRead {
+    Valid(Interval),
+    Invalid,
+}
+
+// The values that stand in `s`.
+fn interval_in(s: &[u8]) -> Interval
+    ensures { λ r. ⌜ r ≡ intervalIn (now (s .entry)) ⌝ }
+{
+    Interval {
+        number: bytes::get_u32(s, 0),
+        sent: bytes::get_u32(s, 4),
+        lost: bytes::get_u32(s, 8),
+        late: bytes::get_u32(s, 12),
+        pairs: bytes::get_u32(s, 16),
+        jumpy: bytes::get_u32(s, 20),
+        sum: bytes::get_u64(s, 24),
+        least: bytes::get_u32(s, 32),
+        most: bytes::get_u32(s, 36),
+        maintenance: bytes::get_u8(s, 40) == 1,
+    }
+}
+
+// Frames sent less frames lost, 0 where more are lost.
+pub fn delivered(v: Interval) -> u32
+    ensures { λ r. ⌜ r ≡ v .sent - v .lost ⌝ }
+{
+    if v.lost <= v.sent { v.sent - v.lost } else { 0 }
+}
+
+// The whole product.
+fn times(a: u32, b: u32) -> u64
+    ensures { λ r. ⌜ r ≡ a * b ⌝ }
+{
+    (a as u64) * (b as u64)
+}
+
+// Whether the counts meet document 01's rules.
+fn counts_meet(v: Interval) -> bool
+    ensures { λ r. ⌜ r ≡ countsMeet v ⌝ }
+{
+    let got = delivered(v);
+    (v.number < limits::INTERVALS)
+        & (v.sent <= limits::FRAMES)
+        & (v.lost <= v.sent)
+        & (v.late <= got)
+        & (v.jumpy <= v.pairs)
+        & ((v.pairs < got) | ((got == 0) & (v.pairs == 0)))
+}
+
+// Whether the delays meet document 01's rules.
+fn delays_meet(v: Interval) -> bool
+    ensures { λ r. ⌜ r ≡ delaysMeet v ⌝ }
+{
+    let got = delivered(v);
+    let low = times(v.least, got);
+    let high = times(v.most, got);
+    if got == 0 {
+        (v.sum == 0) & (v.least == 0) & (v.most == 0)
+    } else {
+        (v.least <= v.most) & (v.most <= limits::LARGEST_DELAY) & (low <= v.sum) & (v.sum <= high)
+    }
+}
+
+// The interval in `s`, if it is 48 bytes and meets every rule.
+pub fn read(s: &[u8]) -> IntervalRead
+    ensures { λ r. ⌜ r ≡ intervalOf (now (s .entry)) ⌝ }
+{
+    if s.len() != 48 {
+        return IntervalRead::Invalid;
+    }
+    let v = interval_in(s);
+    if counts_meet(v) & delays_meet(v) & (bytes::get_u8(s, 40) <= 1) & bytes::are_zero(s, 41, 7) {
+        IntervalRead::Valid(v)
+    } else {
+        IntervalRead::Invalid
+    }
+}
