@@ -1,4 +1,5 @@
 -- The laws of this crate that others cite.
+pub mod IntervalRecord
 pub mod Numbers
 pub mod Products
 pub mod Window

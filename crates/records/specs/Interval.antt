@@ -77,16 +77,23 @@ validIf false v = IntervalRead.Invalid
 unfoldable pub intervalOf : List ℕ → IntervalRead
 intervalOf s = validIf (eqb (length s) 48 && intervalMeets s) (intervalIn s)
 
--- the 48 bytes of the values
-unfoldable pub intervalBytes : Interval → List ℕ
-intervalBytes v =
+-- the bytes of the values: the counts, then the delays, the maintenance flag and the spare bytes
+
+unfoldable pub countBytes : Interval → List ℕ
+countBytes v =
     bytesOf 4 (v .number)
     ++ (bytesOf 4 (v .sent)
     ++ (bytesOf 4 (v .lost)
     ++ (bytesOf 4 (v .late)
     ++ (bytesOf 4 (v .pairs)
-    ++ (bytesOf 4 (v .jumpy)
-    ++ (bytesOf 8 (v .sum)
+    ++ bytesOf 4 (v .jumpy)))))
+
+unfoldable pub delayBytes : Interval → List ℕ
+delayBytes v =
+    bytesOf 8 (v .sum)
     ++ (bytesOf 4 (v .least)
     ++ (bytesOf 4 (v .most)
-    ++ (cond (v .maintenance) 1 0 ∷ bytesOf 7 0)))))))))
+    ++ (cond (v .maintenance) 1 0 ∷ bytesOf 7 0)))
+
+unfoldable pub intervalBytes : Interval → List ℕ
+intervalBytes v = countBytes v ++ delayBytes v

@@ -5,11 +5,9 @@ use crate::room;
 ghost use mathlib.Core.Path.{_≡_};
 ghost use Prim.Native.Nat.{_-_, _*_};
 ghost use mathlib.Core.Bool.{cond};
-ghost use lib.ListN.{length};
 ghost use lib.Seq.{sets};
-ghost use Rattle.records.specs.Room.{hasRoom};
-ghost use Rattle.records.specs.Bytes.{placed};
-ghost use Rattle.records.specs.Interval.{intervalIn, intervalMeets, intervalOf, intervalBytes, countsMeet, delaysMeet};
+ghost use Rattle.records.specs.Room.{Written};
+ghost use Rattle.records.specs.Interval.{intervalIn, intervalOf, countBytes, delayBytes, intervalBytes, countsMeet, delaysMeet};
 
 pub struct Interval {
     pub number: u32,
@@ -105,4 +103,52 @@ pub fn read(s: &[u8]) -> IntervalRead
     } else {
         IntervalRead::Invalid
     }
+}
+
+// The counts put at the start of `part`.
+fn put_counts(part: &mut [u8], v: Interval)
+    ensures { λ r. ⌜ now (part .exit) ≡ sets (now (part .entry)) 0 (countBytes v) ⌝ }
+{
+    bytes::put_u32(part, 0, v.number);
+    bytes::put_u32(part, 4, v.sent);
+    bytes::put_u32(part, 8, v.lost);
+    bytes::put_u32(part, 12, v.late);
+    bytes::put_u32(part, 16, v.pairs);
+    bytes::put_u32(part, 20, v.jumpy);
+}
+
+// A flag as a number.
+fn flag(b: bool) -> u64
+    ensures { λ r. ⌜ r ≡ cond b 1 0 ⌝ }
+{
+    if b { 1 } else { 0 }
+}
+
+// The delays, the maintenance flag and the spare bytes put behind the counts.
+fn put_delays(part: &mut [u8], v: Interval)
+    ensures { λ r. ⌜ now (part .exit) ≡ sets (now (part .entry)) 24 (delayBytes v) ⌝ }
+{
+    bytes::put_u64(part, 24, v.sum);
+    bytes::put_u32(part, 32, v.least);
+    bytes::put_u32(part, 36, v.most);
+    bytes::put_u64(part, 40, flag(v.maintenance));
+}
+
+// The interval's 48 bytes put into `part`.
+pub fn put(part: &mut [u8], v: Interval)
+    ensures { λ r. ⌜ now (part .exit) ≡ sets (now (part .entry)) 0 (intervalBytes v) ⌝ }
+{
+    put_counts(part, v);
+    put_delays(part, v);
+}
+
+// The interval's 48 bytes written from `at` on, if there is room for them; whether there was.
+pub fn write(out: &mut [u8], at: usize, v: Interval) -> bool
+    ensures { λ r. ⌜ Written (now (out .entry)) at (intervalBytes v) r (now (out .exit)) ⌝ }
+{
+    if room::has_room(out.len(), at, 48) {
+        put(&mut out[at..at + 48], v);
+        return true;
+    }
+    false
 }
