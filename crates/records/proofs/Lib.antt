@@ -1,6 +1,7 @@
 -- The laws of this crate that others cite.
 pub mod IntervalRecord
 pub mod Numbers
+pub mod Parts
 pub mod Products
 pub mod Window
 pub mod Zeros

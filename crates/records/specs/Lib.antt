@@ -2,6 +2,7 @@ pub mod Bytes
 pub mod Frame
 pub mod Interval
 pub mod Limits
+pub mod Many
 pub mod Refusals
 pub mod Room
 pub mod Rules

@@ -3,6 +3,7 @@ pub mod bytes;
 pub mod frame;
 pub mod interval;
 pub mod limits;
+pub mod many;
 pub mod refusal;
 pub mod room;
 pub mod settings;
