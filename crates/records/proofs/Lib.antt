@@ -3,5 +3,6 @@ pub mod IntervalRecord
 pub mod Numbers
 pub mod Parts
 pub mod Products
+pub mod Sequences
 pub mod Window
 pub mod Zeros

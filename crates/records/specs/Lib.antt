@@ -6,4 +6,5 @@ pub mod Many
 pub mod Refusals
 pub mod Room
 pub mod Rules
+pub mod Sequence
 pub mod Settings

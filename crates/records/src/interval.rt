@@ -1,12 +1,17 @@
 // The interval record, 48 bytes: its values, its rules, read and written; and a slice of many of them.
 use crate::bytes;
 use crate::limits;
+use crate::many;
+use crate::refusal::Fault;
+use crate::refusal::Refusal;
 use crate::room;
 ghost use mathlib.Core.Path.{_≡_};
 ghost use Prim.Native.Nat.{_-_, _*_};
 ghost use mathlib.Core.Bool.{cond};
 ghost use lib.Seq.{sets};
+ghost use Rattle.records.specs.Many.{recordAt};
 ghost use Rattle.records.specs.Room.{Written};
+ghost use Rattle.records.specs.Sequence.{intervalsIn, checked};
 ghost use Rattle.records.specs.Interval.{intervalIn, intervalOf, countBytes, delayBytes, intervalBytes, countsMeet, delaysMeet};
 
 pub struct Interval {
@@ -151,4 +156,43 @@ pub fn write(out: &mut [u8], at: usize, v: Interval) -> bool
         return true;
     }
     false
+}
+
+// The `k`-th record of `s`; a record that `s` does not hold is not valid.
+pub fn read_at(s: &[u8], k: usize) -> IntervalRead
+    ensures { λ r. ⌜ r ≡ intervalOf (recordAt (now (s .entry)) 48 k) ⌝ }
+{
+    read(many::part(s, 48, k))
+}
+
+pub enum Sequence {
+    // every record is valid and the next after the one before it
+    Sound,
+    Refused(Refusal),
+}
+
+// Whether the whole records of `s` are valid and numbered consecutively from `first`; else the first that is not.
+pub fn check(s: &[u8], first: u64) -> Sequence
+    ensures { λ r. ⌜ r ≡ checked first 0 (intervalsIn (now (s .entry))) ⌝ }
+{
+    let n = s.len() / 48;
+    let mut k: usize = 0;
+    let mut next = first;
+    while k < n {
+        let IntervalRead::Valid(v) = read_at(s, k) else {
+            return Sequence::Refused(Refusal {
+                fault: Fault::Field,
+                place: k as u64,
+            });
+        };
+        if v.number as u64 != next {
+            return Sequence::Refused(Refusal {
+                fault: Fault::Order,
+                place: k as u64,
+            });
+        }
+        k += 1;
+        next = v.number as u64 + 1;
+    }
+    Sequence::Sound
 }
