@@ -3,6 +3,8 @@ pub mod IntervalRecord
 pub mod Numbers
 pub mod Parts
 pub mod Products
+pub mod Rules
 pub mod Sequences
+pub mod SettingsRecord
 pub mod Window
 pub mod Zeros

@@ -6,7 +6,7 @@ use lib.ListN.{length, getD}
 use lib.Dec.{leb, eqb}
 use Rattle.records.specs.Bytes.{numberAt, areZero}
 use Rattle.records.specs.Limits.{largestDelay}
-use Rattle.records.specs.Rules.{allOf}
+use Rattle.records.specs.Rules.{allMet}
 use Rattle.records.specs.declared.frame.Frame.{Frame}
 use Rattle.records.specs.declared.frame.FrameRead.{FrameRead}
 
@@ -15,19 +15,19 @@ unfoldable pub frameIn : List ℕ → Frame
 frameIn s = record { time = numberAt 8 s 0; delay = numberAt 4 s 8; lost = eqb (getD s 12 0) 1 }
 
 -- the rules, a line each: the largest delay, the state, the spare bytes, and a lost frame has delay 0
-unfoldable pub frameMeets : List ℕ → Bool
-frameMeets s =
-    allOf
-    (leb (frameIn s .delay) largestDelay)
-    (leb (getD s 12 0) 1
+unfoldable pub frameRules : List ℕ → List Bool
+frameRules s =
+    eqb (length s) 16
+    ∷ leb (frameIn s .delay) largestDelay
+    ∷ leb (getD s 12 0) 1
     ∷ areZero 3 s 13
     ∷ (not (frameIn s .lost) || eqb (frameIn s .delay) 0)
-    ∷ [])
+    ∷ []
 
 abbrev pub validIf : Bool → Frame → FrameRead
 validIf true v = FrameRead.Valid v
 validIf false v = FrameRead.Invalid
 
--- what 16 bytes say, if they meet every rule
+-- what the bytes say, if they meet every rule
 unfoldable pub frameOf : List ℕ → FrameRead
-frameOf s = validIf (eqb (length s) 16 && frameMeets s) (frameIn s)
+frameOf s = validIf (allMet (frameRules s)) (frameIn s)

@@ -6,7 +6,7 @@ use lib.ListN.{length, getD}
 use lib.Dec.{leb, ltb, eqb}
 use Rattle.records.specs.Bytes.{numberAt, areZero, bytesOf}
 use Rattle.records.specs.Limits.{intervals, frames, largestDelay}
-use Rattle.records.specs.Rules.{allOf}
+use Rattle.records.specs.Rules.{allMet}
 use Rattle.records.specs.declared.interval.Interval.{Interval}
 use Rattle.records.specs.declared.interval.IntervalRead.{IntervalRead}
 
@@ -31,51 +31,52 @@ abbrev pub deliveredIn : Interval → ℕ
 deliveredIn v = v .sent - v .lost
 
 -- the rules on counts, a line each; the last: pairs at most delivered - 1, or pairs 0 when delivered is 0
-unfoldable pub countsMeet : Interval → Bool
-countsMeet v =
-    allOf
-    (ltb (v .number) intervals)
-    (leb (v .sent) frames
+unfoldable pub countRules : Interval → List Bool
+countRules v =
+    ltb (v .number) intervals
+    ∷ leb (v .sent) frames
     ∷ leb (v .lost) (v .sent)
     ∷ leb (v .late) (deliveredIn v)
     ∷ leb (v .jumpy) (v .pairs)
     ∷ (ltb (v .pairs) (deliveredIn v) || (eqb (deliveredIn v) 0 && eqb (v .pairs) 0))
-    ∷ [])
+    ∷ []
 
 -- with nothing delivered the sum, least and most are 0
-abbrev pub noDelays : Interval → Bool
-noDelays v = allOf (eqb (v .sum) 0) (eqb (v .least) 0 ∷ eqb (v .most) 0 ∷ [])
+unfoldable pub noDelayRules : Interval → List Bool
+noDelayRules v = eqb (v .sum) 0 ∷ eqb (v .least) 0 ∷ eqb (v .most) 0 ∷ []
 
 -- otherwise least ≤ most ≤ the largest, and least × delivered ≤ sum ≤ most × delivered
-abbrev pub delaysFit : Interval → Bool
-delaysFit v =
-    allOf
-    (leb (v .least) (v .most))
-    (leb (v .most) largestDelay
+unfoldable pub delayRules : Interval → List Bool
+delayRules v =
+    leb (v .least) (v .most)
+    ∷ leb (v .most) largestDelay
     ∷ leb (v .least * deliveredIn v) (v .sum)
     ∷ leb (v .sum) (v .most * deliveredIn v)
-    ∷ [])
+    ∷ []
+
+unfoldable pub countsMeet : Interval → Bool
+countsMeet v = allMet (countRules v)
 
 unfoldable pub delaysMeet : Interval → Bool
-delaysMeet v = cond (eqb (deliveredIn v) 0) (noDelays v) (delaysFit v)
+delaysMeet v = cond (eqb (deliveredIn v) 0) (allMet (noDelayRules v)) (allMet (delayRules v))
 
 -- maintenance is 0 or 1, and the seven bytes from 41 are spare
-unfoldable pub intervalMeets : List ℕ → Bool
-intervalMeets s =
-    allOf
-    (countsMeet (intervalIn s))
-    (delaysMeet (intervalIn s)
+unfoldable pub intervalRules : List ℕ → List Bool
+intervalRules s =
+    eqb (length s) 48
+    ∷ countsMeet (intervalIn s)
+    ∷ delaysMeet (intervalIn s)
     ∷ leb (getD s 40 0) 1
     ∷ areZero 7 s 41
-    ∷ [])
+    ∷ []
 
 abbrev pub validIf : Bool → Interval → IntervalRead
 validIf true v = IntervalRead.Valid v
 validIf false v = IntervalRead.Invalid
 
--- what 48 bytes say, if they meet every rule
+-- what the bytes say, if they meet every rule
 unfoldable pub intervalOf : List ℕ → IntervalRead
-intervalOf s = validIf (eqb (length s) 48 && intervalMeets s) (intervalIn s)
+intervalOf s = validIf (allMet (intervalRules s)) (intervalIn s)
 
 -- the bytes of the values: the counts, then the delays, the maintenance flag and the spare bytes
 

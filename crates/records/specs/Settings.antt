@@ -6,7 +6,7 @@ use lib.ListN.{length, getD}
 use lib.Dec.{leb, ltb, eqb}
 use Rattle.records.specs.Bytes.{numberAt}
 use Rattle.records.specs.Limits.{largestDelay, million}
-use Rattle.records.specs.Rules.{allOf, within}
+use Rattle.records.specs.Rules.{allMet, within}
 use Rattle.records.specs.declared.settings.LabelSettings.{LabelSettings}
 use Rattle.records.specs.declared.settings.Settings.{Settings}
 use Rattle.records.specs.declared.settings.SettingsRead.{SettingsRead}
@@ -43,60 +43,66 @@ objectivesIn l s =
 
 -- the rules, a line each
 
-unfoldable pub labelMeets : LabelSettings → Bool
-labelMeets l =
-    allOf
-    (within 100 60000 (l .length))
-    (within 1 64 (l .n)
+unfoldable pub labelRules : LabelSettings → List Bool
+labelRules l =
+    within 100 60000 (l .length)
+    ∷ within 1 64 (l .n)
     ∷ (eqb (l .p) 0 || (leb 2 (l .p) && ltb (l .p) (l .n)))
     ∷ within 1 7 (l .weights)
     ∷ (leb 1 (l .c) && ltb (l .c) million)
     ∷ (leb 1 (l .u) && ltb (l .u) million)
     ∷ leb (l .dl) largestDelay
     ∷ leb (l .jt) largestDelay
-    ∷ [])
+    ∷ []
 
-unfoldable pub objectivesMeet : Settings → Bool
-objectivesMeet v =
-    allOf
-    (leb (v .availability) million)
-    (leb (v .composite) million
+unfoldable pub objectiveRules : Settings → List Bool
+objectiveRules v =
+    leb (v .availability) million
+    ∷ leb (v .composite) million
     ∷ leb (v .loss) million
     ∷ leb (v .mean) largestDelay
     ∷ (not (eqb (v .label .p) 0) || eqb (v .runs) 0)
-    ∷ (leb 1 (v .percentile) && leb (v .percentile) million)
+    ∷ within 1 million (v .percentile)
     ∷ leb (v .delay) largestDelay
     ∷ leb (v .range) largestDelay
-    ∷ [])
+    ∷ []
+
+unfoldable pub labelMeets : LabelSettings → Bool
+labelMeets l = allMet (labelRules l)
+
+unfoldable pub objectivesMeet : Settings → Bool
+objectivesMeet v = allMet (objectiveRules v)
 
 -- byte 7 and the four bytes from 60 are spare
-unfoldable pub settingsMeet : List ℕ → Bool
-settingsMeet s =
-    allOf
-    (labelMeets (labelIn s))
-    (objectivesMeet (objectivesIn (labelIn s) s)
+unfoldable pub settingsRules : List ℕ → List Bool
+settingsRules s =
+    eqb (length s) 64
+    ∷ labelMeets (labelIn s)
+    ∷ objectivesMeet (objectivesIn (labelIn s) s)
     ∷ eqb (getD s 7 0) 0
     ∷ eqb (numberAt 4 s 60) 0
-    ∷ [])
+    ∷ []
 
 abbrev pub validIf : Bool → Settings → SettingsRead
 validIf true v = SettingsRead.Valid v
 validIf false v = SettingsRead.Invalid
 
--- what 64 bytes say, if they meet every rule
+-- what the bytes say, if they meet every rule
 unfoldable pub settingsOf : List ℕ → SettingsRead
-settingsOf s = validIf (eqb (length s) 64 && settingsMeet s) (objectivesIn (labelIn s) s)
+settingsOf s = validIf (allMet (settingsRules s)) (objectivesIn (labelIn s) s)
 
 -- two label settings are the same
-unfoldable pub sameLabel : LabelSettings → LabelSettings → Bool
-sameLabel a b =
-    allOf
-    (eqb (a .length) (b .length))
-    (eqb (a .n) (b .n)
+unfoldable pub sameFields : LabelSettings → LabelSettings → List Bool
+sameFields a b =
+    eqb (a .length) (b .length)
+    ∷ eqb (a .n) (b .n)
     ∷ eqb (a .p) (b .p)
     ∷ eqb (a .weights) (b .weights)
     ∷ eqb (a .c) (b .c)
     ∷ eqb (a .u) (b .u)
     ∷ eqb (a .dl) (b .dl)
     ∷ eqb (a .jt) (b .jt)
-    ∷ [])
+    ∷ []
+
+unfoldable pub sameLabel : LabelSettings → LabelSettings → Bool
+sameLabel a b = allMet (sameFields a b)

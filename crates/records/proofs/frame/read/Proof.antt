@@ -8,7 +8,7 @@ use lib.Dec.{leb, eqb}
 use lib.ListN.{length, getD}
 use borrow.Author.Tests.{eq-eqb, ne-eqb}
 use Rattle.records.specs.Bytes.{numberAt, areZero}
-use Rattle.records.specs.Frame.{frameIn, frameMeets, frameOf, validIf}
+use Rattle.records.specs.Frame.{frameIn, frameRules, frameOf, validIf}
 use Rattle.records.specs.Limits.{largestDelay}
 use Rattle.records.specs.declared.frame.Frame.{Frame}
 use borrow.Author.Needs.{needs}
@@ -16,14 +16,14 @@ use Rattle.records.proofs.frame.read.Statement.{statement}
 use Rattle.records.proofs.frame.read.Tie as tie
 
 returns : tie.Need-returns
-unfolding frameOf
+unfolding frameOf frameRules
 returns c = sym (simp (ne-eqb (length (c .before .before .args .s .now)) 16 (c .if1 .taken)))
 
 -- the flag of the code is the flag of the rules
 by-rules :
     (t : Bool) (s : List ℕ) {v : Frame} {x : ℕ} {z : Bool} → v ≡ frameIn s → x ≡ getD s 12 0 → z ≡ areZero 3 s 13 →
     length s ≡ 16 → leb (v .delay) 1000000000 && leb x 1 && z && (not (v .lost) || eqb (v .delay) 0) ≡ t → frameOf s ≡ validIf t v
-unfolding frameOf frameMeets largestDelay
+unfolding frameOf frameRules largestDelay
 by-rules t s ev ex ez whole et = let e : eqb (length s) 16 ≡ true = eq-eqb (length s) 16 whole in cc
 
 frame-in-requires : tie.Need-frame-in-requires

@@ -1,7 +1,7 @@
 -- `records::interval::counts_meet` meets its contract: it is the rules, one after the other.
 -- Assumes nothing.
 use mathlib.Core.Path.{refl}
-use Rattle.records.specs.Interval.{countsMeet}
+use Rattle.records.specs.Interval.{countRules, countsMeet}
 use Rattle.records.specs.Limits.{intervals, frames}
 use borrow.Author.Needs.{needs}
 use Rattle.records.proofs.interval.counts_meet.Statement.{statement}
@@ -11,7 +11,7 @@ delivered-requires : tie.Need-delivered-requires
 delivered-requires c κs = search needs
 
 returns : tie.Need-returns
-unfolding countsMeet intervals frames
+unfolding countsMeet countRules intervals frames
 returns c = rw (c .before .before .before .before .before .before .before .delivered .ensures) refl
 
 pub counts-meet-spec : {M : Type 1} → statement M

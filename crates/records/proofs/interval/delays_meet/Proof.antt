@@ -1,7 +1,7 @@
 use mathlib.Core.Path.{_≡_, sym, _∙_}
 -- `records::interval::delays_meet` meets its contract: the rules of the case that holds, one after the other.
 -- Assumes nothing.
-use Rattle.records.specs.Interval.{delaysMeet}
+use Rattle.records.specs.Interval.{delayRules, delaysMeet, noDelayRules}
 use Rattle.records.specs.Limits.{largestDelay}
 use Prim.Native.Nat.{_-_}
 use borrow.Author.Tests.{eq-eqb, ne-eqb}
@@ -19,12 +19,12 @@ times-requires-2 : tie.Need-times-requires-2
 times-requires-2 c κs = search needs
 
 returns : tie.Need-returns
-unfolding delaysMeet
+unfolding delaysMeet noDelayRules
 returns c = let none = sym (c .before .before .before .before .before .before .delivered .ensures) ∙ c .before .before .before .if1 .taken in
     simp (eq-eqb _ 0 none)
 
 returns-2 : tie.Need-returns-2
-unfolding delaysMeet largestDelay
+unfolding delaysMeet delayRules largestDelay
 returns-2 c = rw (c .before .before .before .before .before .before .times .ensures, c .before .before .before .before .before .times2 .ensures, c .before .before .before .before .before .before .before .delivered .ensures) (simp (ne-eqb _ 0 (λ h. c .before .before .before .before .if1 .left (c .before .before .before .before .before .before .before .delivered .ensures ∙ h))))
 
 pub delays-meet-spec : {M : Type 1} → statement M

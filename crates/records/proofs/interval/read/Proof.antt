@@ -8,14 +8,14 @@ use lib.Dec.{leb, eqb}
 use lib.ListN.{length, getD}
 use borrow.Author.Tests.{eq-eqb, ne-eqb}
 use Rattle.records.specs.Bytes.{areZero}
-use Rattle.records.specs.Interval.{intervalIn, countsMeet, delaysMeet, intervalMeets, intervalOf, validIf}
+use Rattle.records.specs.Interval.{intervalIn, countsMeet, delaysMeet, intervalRules, intervalOf, validIf}
 use Rattle.records.specs.declared.interval.Interval.{Interval}
 use borrow.Author.Needs.{needs}
 use Rattle.records.proofs.interval.read.Statement.{statement}
 use Rattle.records.proofs.interval.read.Tie as tie
 
 returns : tie.Need-returns
-unfolding intervalOf
+unfolding intervalOf intervalRules
 returns c = sym (simp (ne-eqb (length (c .before .before .args .s .now)) 48 (c .if1 .taken)))
 
 -- the flag of the code is the flag of the rules
@@ -23,7 +23,7 @@ by-rules :
     (t : Bool) (s : List ℕ) {v : Interval} {a b z : Bool} {x : ℕ} →
     v ≡ intervalIn s → a ≡ countsMeet v → b ≡ delaysMeet v → x ≡ getD s 40 0 → z ≡ areZero 7 s 41 →
     length s ≡ 48 → a && b && leb x 1 && z ≡ t → intervalOf s ≡ validIf t v
-unfolding intervalOf intervalMeets
+unfolding intervalOf intervalRules
 by-rules t s ev ea eb ex ez whole et = let e : eqb (length s) 48 ≡ true = eq-eqb (length s) 48 whole in cc
 
 interval-in-requires : tie.Need-interval-in-requires

@@ -1,13 +1,13 @@
 -- `records::settings::objectives_meet` meets its contract: it is the rules, one after the other.
 -- Assumes nothing.
 use mathlib.Core.Path.{refl}
-use Rattle.records.specs.Settings.{objectivesMeet}
+use Rattle.records.specs.Settings.{objectiveRules, objectivesMeet}
 use Rattle.records.specs.Limits.{largestDelay, million}
 use Rattle.records.proofs.settings.objectives_meet.Statement.{statement}
 use Rattle.records.proofs.settings.objectives_meet.Tie as tie
 
 returns : tie.Need-returns
-unfolding objectivesMeet largestDelay million
+unfolding objectivesMeet objectiveRules largestDelay million
 returns c = refl
 
 pub objectives-meet-spec : {M : Type 1} → statement M

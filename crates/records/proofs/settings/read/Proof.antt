@@ -10,13 +10,13 @@ use Rattle.records.specs.declared.settings.Settings.{Settings}
 -- `records::settings::read` meets its contract: the length, then the rules over the values read.
 -- Assumes nothing.
 use borrow.Author.Tests.{eq-eqb, ne-eqb}
-use Rattle.records.specs.Settings.{labelIn, labelMeets, objectivesIn, objectivesMeet, settingsMeet, settingsOf, validIf}
+use Rattle.records.specs.Settings.{labelIn, labelMeets, objectivesIn, objectivesMeet, settingsRules, settingsOf, validIf}
 use borrow.Author.Needs.{needs}
 use Rattle.records.proofs.settings.read.Statement.{statement}
 use Rattle.records.proofs.settings.read.Tie as tie
 
 returns : tie.Need-returns
-unfolding settingsOf
+unfolding settingsOf settingsRules
 returns c = simp (ne-eqb (length (c .before .before .args .s .now)) 64 (c .if1 .taken))
 
 -- the flag of the code is the flag of the rules
@@ -24,7 +24,7 @@ by-rules :
     (t : Bool) (s : List ℕ) {l : LabelSettings} {v : Settings} {a b : Bool} {x y : ℕ} →
     l ≡ labelIn s → v ≡ objectivesIn l s → a ≡ labelMeets l → b ≡ objectivesMeet v → x ≡ getD s 7 0 → y ≡ numberAt 4 s 60 →
     length s ≡ 64 → a && b && eqb x 0 && eqb y 0 ≡ t → settingsOf s ≡ validIf t v
-unfolding settingsOf settingsMeet
+unfolding settingsOf settingsRules
 by-rules t s el ev ea eb ex ey whole et = let e : eqb (length s) 64 ≡ true = eq-eqb (length s) 64 whole in cc
 
 label-in-requires : tie.Need-label-in-requires

@@ -1,12 +1,12 @@
 -- `records::settings::same_label` meets its contract, field by field.
 -- Assumes nothing.
 use mathlib.Core.Path.{refl}
-use Rattle.records.specs.Settings.{sameLabel}
+use Rattle.records.specs.Settings.{sameFields, sameLabel}
 use Rattle.records.proofs.settings.same_label.Statement.{statement}
 use Rattle.records.proofs.settings.same_label.Tie as tie
 
 returns : tie.Need-returns
-unfolding sameLabel
+unfolding sameLabel sameFields
 returns c = refl
 
 pub same-label-spec : {M : Type 1} → statement M
