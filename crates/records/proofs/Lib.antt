@@ -1,8 +1,10 @@
 -- The laws of this crate that others cite.
+pub mod Bounds
 pub mod IntervalRecord
 pub mod Numbers
 pub mod Parts
 pub mod Products
+pub mod RoundTrip
 pub mod Rules
 pub mod Sequences
 pub mod SettingsRecord

@@ -6,8 +6,8 @@ use Prim.Native.Nat.{ℕ, zero, suc, _+_, _*_, _/_, _%_, _^_, _≤_, _<_}
 use native.Mathlib.Nat.{pow-suc, pow-succ', mul-assoc, div-div-eq-div-mul}
 use native.Mathlib.Omega.{arith}
 use lib.Arith.{mod-mul}
-use lib.ListN.{length, getD, set, List·getD-eq-default}
-use lib.Seq.{sets, set-out}
+use lib.ListN.{length, getD, set, drop, List·getD-eq-default, drop-of-length-le}
+use lib.Seq.{sets, set-out, drop-cons}
 use Rattle.records.specs.Bytes.{number, bytesOf, part, numberAt, Bytes}
 
 -- what lies past the end reads as 0, and is not written
@@ -137,3 +137,19 @@ sets-four l i a b c d =
 pub sets-halves : (v w : ℕ) (l : List ℕ) (i x : ℕ) → sets (sets l i (bytesOf v (x % 256 ^ v))) (i + v) (bytesOf w (x / 256 ^ v)) ≡ sets l i (bytesOf (v + w) x)
 sets-halves v w l i x =
     rw (bytes-append v w x, sets-append, length-bytes, bytes-of-rest)
+
+-- a part of bytes is bytes, and the part from 0 that is as long as the whole is the whole
+
+pub part-is-bytes : (w : ℕ) (s : List ℕ) (i : ℕ) → Bytes s → Bytes (part w s i)
+unfolding part Bytes
+part-is-bytes zero s i h k = omega arith
+part-is-bytes (suc w) s i h zero = h i
+part-is-bytes (suc w) s i h (suc k) = part-is-bytes w s (suc i) h k
+
+pub part-from : (s : List ℕ) (w i : ℕ) → length s ≡ i + w → part w s i ≡ drop i s
+unfolding part
+part-from s zero i e = sym (drop-of-length-le s {i = i} (omega arith))
+part-from s (suc w) i e = sym (drop-cons s i 0 (omega arith) ∙ ap (λ (l : List ℕ). getD s i 0 ∷ l) (sym (part-from s w (suc i) (omega arith))))
+
+pub part-whole : (s : List ℕ) (w : ℕ) → length s ≡ w → part w s 0 ≡ s
+part-whole s w e = part-from s w 0 (omega arith)
