@@ -6,8 +6,8 @@ use Prim.Native.Nat.{ℕ, zero, suc, _+_, _*_, _/_, _%_, _^_, _≤_, _<_}
 use native.Mathlib.Nat.{pow-suc, pow-succ', mul-assoc, div-div-eq-div-mul}
 use native.Mathlib.Omega.{arith}
 use lib.Arith.{mod-mul}
-use lib.ListN.{length, getD, set, drop, List·getD-eq-default, drop-of-length-le}
-use lib.Seq.{sets, set-out, drop-cons}
+use lib.ListN.{length, getD, set, drop, length-set, List·getD-eq-default, drop-of-length-le}
+use lib.Seq.{sets, set-out, drop-cons, getD-set-same, getD-set-other}
 use Rattle.records.specs.Bytes.{number, bytesOf, part, numberAt, Bytes}
 
 -- what lies past the end reads as 0, and is not written
@@ -153,3 +153,25 @@ part-from s (suc w) i e = sym (drop-cons s i 0 (omega arith) ∙ ap (λ (l : Lis
 
 pub part-whole : (s : List ℕ) (w : ℕ) → length s ≡ w → part w s 0 ≡ s
 part-whole s w e = part-from s w 0 (omega arith)
+
+-- what is put reads as the value
+
+before-sets : (vs l : List ℕ) (i j : ℕ) → j < i → getD (sets l i vs) j 0 ≡ getD l j 0
+before-sets [] l i j h = refl
+before-sets (v ∷ vs) l i j h = before-sets vs (set l i v) (suc i) j (omega arith) ∙ getD-set-other l i j v 0 (omega arith)
+
+pub part-put : (bs l : List ℕ) (i : ℕ) → i + length bs ≤ length l → part (length bs) (sets l i bs) i ≡ bs
+unfolding part
+part-put [] l i h = refl
+part-put (b ∷ bs) l i h =
+    let first : getD (sets (set l i b) (suc i) bs) i 0 ≡ b = before-sets bs (set l i b) (suc i) i (omega arith) ∙ getD-set-same l i b 0 (omega arith) in
+    let rest : part (length bs) (sets (set l i b) (suc i) bs) (suc i) ≡ bs = part-put bs (set l i b) (suc i) (rw length-set (omega arith)) in
+    cc
+
+pub read-put : (w x : ℕ) (l : List ℕ) (i : ℕ) → x < 256 ^ w → i + w ≤ length l → numberAt w (sets l i (bytesOf w x)) i ≡ x
+unfolding numberAt
+read-put w x l i fits room =
+    let e : length (bytesOf w x) ≡ w = length-bytes w x in
+    ap (λ k. number (part k (sets l i (bytesOf w x)) i)) (sym e)
+    ∙ ap number (part-put (bytesOf w x) l i (omega arith))
+    ∙ number-of-bytes w x fits

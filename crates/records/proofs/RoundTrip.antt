@@ -1,9 +1,9 @@
--- Both round trips of the interval record. `read-write`: what is written of values that meet the rules is read back as the same values.
--- `write-read`: the bytes of a valid record are the bytes written of its values. With bytes of known width each field is computed, and what is left
+-- Both round trips of the interval record and of label settings. `read-write`: what is written of values that meet the rules is read back as the
+-- same values. `write-read`: the bytes of a valid record are the bytes written of its values. With bytes of known width each field is computed, and what is left
 -- is that the field's number fits its width, which the rules give, or that the spare bytes are 0.
 -- Assumes nothing.
 use mathlib.Core.Path.{_≡_, refl, ap, sym, _∙_, subst}
-use mathlib.Core.Logic.{⊎-elim}
+use mathlib.Core.Logic.{⊎-elim, _↔_}
 use mathlib.Core.Bool.{Bool, true, false, cond, _&&_, and-eq-true-iff}
 use mathlib.Core.List.{List, [], _∷_, _++_}
 use Prim.Native.Nat.{ℕ, zero, suc, _+_, _*_, _^_, _-_, _≤_, _<_}
@@ -16,10 +16,13 @@ use Rattle.records.specs.Bytes.{number, numberAt, part, bytesOf, areZero
 use Rattle.records.specs.Limits.{frames, largestDelay}
 use Rattle.records.specs.Rules.{allMet}
 use Rattle.records.specs.Interval.{intervalIn, deliveredIn, countsMeet, delaysMeet, intervalRules, intervalOf, countBytes, delayBytes, intervalBytes}
+use Rattle.records.specs.Settings.{labelIn, labelMeets, shapeBytes, thresholdBytes, labelBytes}
 use Rattle.records.specs.declared.interval.Interval.{Interval}
 use Rattle.records.specs.declared.interval.IntervalRead.{IntervalRead}
+use Rattle.records.specs.declared.settings.LabelSettings.{LabelSettings}
+use Rattle.records.proofs.SettingsRecord.{LabelValid, label-valid}
 use Rattle.records.proofs.Rules.{rule-met}
-use Rattle.records.proofs.Bounds.{intervals-fit, frames-fit, largest-delay-fits, interval-sum-fits}
+use Rattle.records.proofs.Bounds.{intervals-fit, frames-fit, largest-delay-fits, million-fits, interval-sum-fits}
 use Rattle.records.proofs.Numbers.{number-of-bytes, bytes-of-number, length-part, part-is-bytes, part-append, part-whole}
 use Rattle.records.proofs.IntervalRecord.{IntervalValid, interval-facts, interval-read, length-interval}
 
@@ -114,3 +117,39 @@ write-read s v h e =
     let rules : (k : ℕ) → getD (intervalRules s) k true ≡ true = λ k. rule-met (intervalRules s) k (r .0) in
     rw (sym (r .1), counts-back s h, delays-back s h (rules 3) (rules 4))
     (sym (part-append 24 24 s 0) ∙ part-whole s 48 (eqb-true (length s) 48 (rules 0)))
+
+-- label settings
+
+label-of-part : (s : List ℕ) → labelIn s ≡ labelIn (part 24 s 0)
+unfolding labelIn numberAt part
+label-of-part s = refl
+
+pub length-label : (l : LabelSettings) → length (labelBytes l) ≡ 24
+unfolding labelBytes shapeBytes thresholdBytes bytesOf
+length-label l = refl
+
+pub label-read-write : (l : LabelSettings) (rest : List ℕ) → labelMeets l ≡ true → labelIn (labelBytes l ++ rest) ≡ l
+unfolding labelIn labelBytes shapeBytes thresholdBytes numberAt part bytesOf
+label-read-write l rest h =
+    let f = label-valid l h in
+    λ i.
+    record {
+      length = number-of-bytes 4 (l .length) (omega (arith, f .length-facts .1)) i;
+      n = l .n;
+      p = l .p;
+      weights = l .weights;
+      c = number-of-bytes 4 (l .c) (omega (arith, f .c-facts .1, million-fits)) i;
+      u = number-of-bytes 4 (l .u) (omega (arith, f .u-facts .1, million-fits)) i;
+      dl = number-of-bytes 4 (l .dl) (omega (arith, f .dl-fact, largest-delay-fits)) i;
+      jt = number-of-bytes 4 (l .jt) (omega (arith, f .jt-fact, largest-delay-fits)) i;
+    }
+
+pub label-write-read : (s : List ℕ) → Bytes s → getD s 7 0 ≡ 0 → labelBytes (labelIn s) ≡ part 24 s 0
+unfolding labelBytes shapeBytes thresholdBytes labelIn part
+label-write-read s h spare =
+    rw (part-bytes 4 s 0 h, part-bytes 4 s 8 h, part-bytes 4 s 12 h, part-bytes 4 s 16 h, part-bytes 4 s 20 h, spare)
+
+-- so the label settings of two valid records are equal exactly when their first 24 bytes are
+pub label-by-bytes : (s t : List ℕ) → Bytes s → Bytes t → getD s 7 0 ≡ 0 → getD t 7 0 ≡ 0 → (labelIn s ≡ labelIn t) ↔ (part 24 s 0 ≡ part 24 t 0)
+label-by-bytes s t hs ht es et =
+    (λ e. sym (label-write-read s hs es) ∙ ap labelBytes e ∙ label-write-read t ht et, λ e. label-of-part s ∙ ap labelIn e ∙ sym (label-of-part t))

@@ -1,10 +1,10 @@
 -- The settings record of document 01, 64 bytes.
 use Prim.Native.Nat.{ℕ}
 use mathlib.Core.Bool.{Bool, true, false, _&&_, _||_, not}
-use mathlib.Core.List.{List, [], _∷_}
+use mathlib.Core.List.{List, [], _∷_, _++_}
 use lib.ListN.{length, getD}
 use lib.Dec.{leb, ltb, eqb}
-use Rattle.records.specs.Bytes.{numberAt}
+use Rattle.records.specs.Bytes.{numberAt, bytesOf}
 use Rattle.records.specs.Limits.{largestDelay, million}
 use Rattle.records.specs.Rules.{allMet, within}
 use Rattle.records.specs.declared.settings.LabelSettings.{LabelSettings}
@@ -106,3 +106,14 @@ sameFields a b =
 
 unfoldable pub sameLabel : LabelSettings → LabelSettings → Bool
 sameLabel a b = allMet (sameFields a b)
+
+-- the 24 bytes of label settings; byte 7 is spare
+
+unfoldable pub shapeBytes : LabelSettings → List ℕ
+shapeBytes l = bytesOf 4 (l .length) ++ (l .n ∷ l .p ∷ l .weights ∷ 0 ∷ [])
+
+unfoldable pub thresholdBytes : LabelSettings → List ℕ
+thresholdBytes l = bytesOf 4 (l .c) ++ (bytesOf 4 (l .u) ++ (bytesOf 4 (l .dl) ++ bytesOf 4 (l .jt)))
+
+unfoldable pub labelBytes : LabelSettings → List ℕ
+labelBytes l = shapeBytes l ++ thresholdBytes l

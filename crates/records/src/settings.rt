@@ -2,7 +2,8 @@
 use crate::bytes;
 use crate::limits;
 ghost use mathlib.Core.Path.{_≡_};
-ghost use Rattle.records.specs.Settings.{labelIn, labelMeets, objectivesIn, objectivesMeet, settingsOf, sameLabel};
+ghost use lib.Seq.{sets};
+ghost use Rattle.records.specs.Settings.{labelIn, labelMeets, objectivesIn, objectivesMeet, settingsOf, sameLabel, shapeBytes, thresholdBytes, labelBytes};
 
 // What labels depend on.
 pub struct LabelSettings {
@@ -137,4 +138,33 @@ pub fn same_label(a: LabelSettings, b: LabelSettings) -> bool
         & (a.u == b.u)
         & (a.dl == b.dl)
         & (a.jt == b.jt)
+}
+
+// What stands before C put at the start of `part`.
+fn put_shape(part: &mut [u8], l: LabelSettings)
+    ensures { λ r. ⌜ now (part .exit) ≡ sets (now (part .entry)) 0 (shapeBytes l) ⌝ }
+{
+    bytes::put_u32(part, 0, l.length);
+    bytes::put_u8(part, 4, l.n);
+    bytes::put_u8(part, 5, l.p);
+    bytes::put_u8(part, 6, l.weights);
+    bytes::put_u8(part, 7, 0);
+}
+
+// The thresholds put behind it.
+fn put_thresholds(part: &mut [u8], l: LabelSettings)
+    ensures { λ r. ⌜ now (part .exit) ≡ sets (now (part .entry)) 8 (thresholdBytes l) ⌝ }
+{
+    bytes::put_u32(part, 8, l.c);
+    bytes::put_u32(part, 12, l.u);
+    bytes::put_u32(part, 16, l.dl);
+    bytes::put_u32(part, 20, l.jt);
+}
+
+// The 24 bytes of label settings put into `part`.
+pub fn put_label(part: &mut [u8], l: LabelSettings)
+    ensures { λ r. ⌜ now (part .exit) ≡ sets (now (part .entry)) 0 (labelBytes l) ⌝ }
+{
+    put_shape(part, l);
+    put_thresholds(part, l);
 }
