@@ -1,0 +1,7 @@
+// Runs document 01's edges on the compiled code and prints what they give; `stdout` is what they must give.
+mod output;
+mod records_edges;
+
+fn main() {
+    records_edges::run();
+}

@@ -1,0 +1,26 @@
+// What the edges print.
+use libc::STDOUT_FILENO;
+
+pub fn text(s: &[u8]) {
+    io::write_all(STDOUT_FILENO, s);
+}
+
+pub fn line(s: &[u8]) {
+    text(s);
+    text(b"\n");
+}
+
+// A number behind a space.
+pub fn number(n: u64) {
+    text(b" ");
+    io::print_decimal(STDOUT_FILENO, n);
+}
+
+// 1 or 0.
+pub fn bit(b: bool) {
+    if b {
+        text(b"1");
+    } else {
+        text(b"0");
+    }
+}
