@@ -13,7 +13,9 @@ ghost use Prim.Native.Nat.{_≤_};
 
 // A record of each kind stands at the front of 128 bytes.
 const SETTINGS: u8 = 0;
+
 const FRAME: u8 = 1;
+
 const INTERVAL: u8 = 2;
 
 fn size(kind: u8) -> usize
@@ -31,14 +33,26 @@ fn size(kind: u8) -> usize
 fn is_read(kind: u8, s: &[u8]) -> bool {
     if kind == SETTINGS {
         let r = settings::read(s);
-        return if let SettingsRead::Valid(_) = r { true } else { false };
+        return if let SettingsRead::Valid(_) = r {
+            true
+        } else {
+            false
+        };
     }
     if kind == FRAME {
         let r = frame::read(s);
-        return if let FrameRead::Valid(_) = r { true } else { false };
+        return if let FrameRead::Valid(_) = r {
+            true
+        } else {
+            false
+        };
     }
     let r = interval::read(s);
-    if let IntervalRead::Valid(_) = r { true } else { false }
+    if let IntervalRead::Valid(_) = r {
+        true
+    } else {
+        false
+    }
 }
 
 // Whether the first `len` bytes of `s` are read.
@@ -65,7 +79,16 @@ fn with_u64(kind: u8, b: [u8; 128], at: usize, x: u64) {
 }
 
 // A field one below its least, at its least, at its most and one past it.
-fn field(name: &[u8], kind: u8, b: [u8; 128], at: usize, below: u32, least: u32, most: u32, past: u32) {
+fn field(
+    name: &[u8],
+    kind: u8,
+    b: [u8; 128],
+    at: usize,
+    below: u32,
+    least: u32,
+    most: u32,
+    past: u32,
+) {
     output::text(name);
     output::text(b" ");
     with_u32(kind, b, at, below);
@@ -75,7 +98,16 @@ fn field(name: &[u8], kind: u8, b: [u8; 128], at: usize, below: u32, least: u32,
     output::text(b"\n");
 }
 
-fn small_field(name: &[u8], kind: u8, b: [u8; 128], at: usize, below: u8, least: u8, most: u8, past: u8) {
+fn small_field(
+    name: &[u8],
+    kind: u8,
+    b: [u8; 128],
+    at: usize,
+    below: u8,
+    least: u8,
+    most: u8,
+    past: u8,
+) {
     output::text(name);
     output::text(b" ");
     with_u8(kind, b, at, below);
@@ -145,14 +177,41 @@ fn run_objectives(b: [u8; 128]) {
     field(b"high", SETTINGS, b, 40, 0, 1, 4_294_967_294, 4_294_967_295);
     field(b"runs", SETTINGS, b, 44, 0, 1, 4_294_967_294, 4_294_967_295);
     field(b"percentile", SETTINGS, b, 48, 0, 1, 1_000_000, 1_000_001);
-    field(b"delay", SETTINGS, b, 52, 0, 1, 1_000_000_000, 1_000_000_001);
-    field(b"range", SETTINGS, b, 56, 0, 1, 1_000_000_000, 1_000_000_001);
+    field(
+        b"delay",
+        SETTINGS,
+        b,
+        52,
+        0,
+        1,
+        1_000_000_000,
+        1_000_000_001,
+    );
+    field(
+        b"range",
+        SETTINGS,
+        b,
+        56,
+        0,
+        1,
+        1_000_000_000,
+        1_000_000_001,
+    );
 }
 
 fn run_without_p(b: [u8; 128]) {
     let mut none = b;
     bytes::put_u8(&mut none, 5, 0);
-    field(b"runs without p", SETTINGS, none, 44, 0, 1, 4_294_967_294, 4_294_967_295);
+    field(
+        b"runs without p",
+        SETTINGS,
+        none,
+        44,
+        0,
+        1,
+        4_294_967_294,
+        4_294_967_295,
+    );
     small_field(b"n without p", SETTINGS, none, 4, 0, 1, 64, 65);
 }
 
@@ -197,7 +256,16 @@ fn run_interval() {
     with_u64(INTERVAL, b, 24, 12_001);
     output::text(b"\n");
     field(b"least", INTERVAL, b, 32, 0, 1, 1_500, 1_501);
-    field(b"most", INTERVAL, b, 36, 1_499, 1_500, 1_000_000_000, 1_000_000_001);
+    field(
+        b"most",
+        INTERVAL,
+        b,
+        36,
+        1_499,
+        1_500,
+        1_000_000_000,
+        1_000_000_001,
+    );
     small_field(b"maintenance", INTERVAL, b, 40, 0, 1, 2, 255);
     spare(INTERVAL, b, 41, 48);
     run_empty();

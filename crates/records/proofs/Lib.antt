@@ -1,5 +1,6 @@
 -- The laws of this crate that others cite.
 pub mod Bounds
+pub mod FrameRecord
 pub mod IntervalRecord
 pub mod Numbers
 pub mod Parts

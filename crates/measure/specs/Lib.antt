@@ -1,0 +1,3 @@
+pub mod Measured
+pub mod Running
+pub mod Outcome
