@@ -1,3 +1,4 @@
 -- The laws of this crate that others cite.
+pub mod Judging
 pub mod Taking
 pub mod Tallies

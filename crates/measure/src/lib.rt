@@ -18,7 +18,7 @@ ghost use Prim.Native.Nat.{_^_, _≤_, _<_, min, max};
 ghost use mathlib.Core.Bool.{cond};
 ghost use Rattle.measure.specs.Measured.{apart};
 ghost use Rattle.measure.specs.Running.{added, finished, nothing, takenOf, Small};
-ghost use Rattle.measure.specs.Outcome.{framesIn, readsFrom};
+ghost use Rattle.measure.specs.Outcome.{framesIn, readsFrom, judgedFrames, Outcome};
 ghost use Rattle.records.specs.Limits.{frames};
 ghost use Rattle.records.specs.Refusals.{refusal};
 
@@ -179,4 +179,69 @@ fn refuse(fault: Fault, place: u64) -> Taken
     ensures { λ r. ⌜ r ≡ Taken.Not (refusal fault place) ⌝ }
 {
     Taken::Not(Refusal { fault, place })
+}
+
+// The interval of the `n` frames in `s`, or the first refusal that is left where there is room.
+fn judge(l: LabelSettings, s: &[u8], n: usize, number: u64, maintenance: u64) -> Judged
+    requires { ⌜ l .length ≤ 60000 ⌝ }
+    ensures { λ r. ⌜ r ≡ judgedFrames l n number maintenance (now (s .entry)) ⌝ }
+{
+    if (limits::FRAMES as usize) < n {
+        return bad(Fault::Full);
+    }
+    if (limits::INTERVALS as u64) <= number {
+        return bad(Fault::Field);
+    }
+    if 1 < maintenance {
+        return bad(Fault::Field);
+    }
+    let length = (l.length as u64) * 1_000_000;
+    let from = number * length;
+    let taken = take_frames(s, n, from, from + length, l.dl, l.jt);
+    match taken {
+        Taken::All(t) => Judged::Good(finish(t, number as u32, maintenance == 1)),
+        Taken::Not(r) => Judged::Bad(r),
+    }
+}
+
+fn bad(fault: Fault) -> Judged
+    ensures { λ r. ⌜ r ≡ Judged.Bad (refusal fault 0) ⌝ }
+{
+    Judged::Bad(Refusal { fault, place: 0 })
+}
+
+fn refused(fault: Fault) -> Answer
+    ensures { λ r. ⌜ r ≡ Answer.Refused (refusal fault 0) ⌝ }
+{
+    Answer::Refused(Refusal { fault, place: 0 })
+}
+
+// The interval record of the frames, written into 48 bytes of `out` from `at` on, or the refusal that goes before all others.
+pub fn interval(
+    settings: &[u8],
+    frames: &[u8],
+    number: u64,
+    maintenance: u64,
+    out: &mut [u8],
+    at: usize,
+) -> Answer
+    ensures { λ r. ⌜ Outcome (now (settings .entry)) (now (frames .entry)) number maintenance (now (out .entry)) at r (now (out .exit)) ⌝ }
+{
+    let SettingsRead::Valid(v) = settings::read(settings) else {
+        return refused(Fault::Settings);
+    };
+    let Counted::Whole(n) = many::count(frames.len(), 16) else {
+        return refused(Fault::Length);
+    };
+    if !room::has_room(out.len(), at, 48) {
+        return refused(Fault::Room);
+    }
+    let judged = judge(v.label, frames, n, number, maintenance);
+    match judged {
+        Judged::Good(i) => {
+            interval::put(&mut out[at..at + 48], i);
+            Answer::Written
+        }
+        Judged::Bad(r) => Answer::Refused(r),
+    }
 }
