@@ -2,3 +2,4 @@
 pub mod Judging
 pub mod Taking
 pub mod Tallies
+pub mod Validity

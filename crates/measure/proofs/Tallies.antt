@@ -103,7 +103,7 @@ split-lost :
 split-lost ds d n k true e = omega arith
 split-lost ds d n k false e = omega arith
 
-lost-or-delivered : (fs : List Frame) → length fs ≡ countIf isLost fs + length (delaysOf fs)
+pub lost-or-delivered : (fs : List Frame) → length fs ≡ countIf isLost fs + length (delaysOf fs)
 unfolding countIf isLost delaysOf
 lost-or-delivered [] = refl
 lost-or-delivered (f ∷ fs) = split-lost (delaysOf fs) (f .delay) (length fs) (countIf isLost fs) (f .lost) (lost-or-delivered fs)
