@@ -1,7 +1,9 @@
 // Runs document 01's edges on the compiled code and prints what they give; `stdout` is what they must give.
+mod measure_edges;
 mod output;
 mod records_edges;
 
 fn main() {
     records_edges::run();
+    measure_edges::run();
 }

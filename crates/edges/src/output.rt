@@ -1,5 +1,7 @@
 // What the edges print.
 use libc::STDOUT_FILENO;
+use records::refusal;
+use records::refusal::Refusal;
 
 pub fn text(s: &[u8]) {
     io::write_all(STDOUT_FILENO, s);
@@ -23,4 +25,12 @@ pub fn bit(b: bool) {
     } else {
         text(b"0");
     }
+}
+
+// A refusal: its number and its place.
+pub fn refused(r: Refusal) {
+    let fault = r.fault;
+    text(b" refused");
+    number(refusal::number(fault));
+    number(r.place);
 }
