@@ -11,6 +11,7 @@ unfoldable pub keep : (ℕ → Bool) → List ℕ → List ℕ
 keep f [] = []
 keep f (x ∷ xs) = cond (f x) (x ∷ keep f xs) (keep f xs)
 
+-- 1 for a test that is passed, else 0.
 abbrev pub hit : Bool → ℕ
 hit true = 1
 hit false = 0
@@ -28,6 +29,7 @@ atMost d xs = howMany (λ x. leb x d) xs
 abbrev pub reaches : ℕ → List ℕ → ℕ → Bool
 reaches pr xs d = leb (pr * length xs) (million * atMost d xs)
 
+-- The least of m and a list.
 unfoldable pub leastFrom : ℕ → List ℕ → ℕ
 leastFrom m [] = m
 leastFrom m (x ∷ xs) = leastFrom (min m x) xs
@@ -45,7 +47,7 @@ percentile pr xs = least (keep (reaches pr xs) xs)
 unfoldable pub range : ℕ → List ℕ → ℕ
 range pr xs = percentile pr xs - least xs
 
--- 01's sentence as a relation: d is listed, d reaches, and no listed delay below d does.
+-- Document 01's sentence as a relation: d is listed, d reaches, and no listed delay below d does.
 pub record IsPercentile (pr : ℕ) (xs : List ℕ) (d : ℕ) : Type 0 where
   pub listed : List·Memᴰ d xs
   pub reached : pr * length xs ≤ million * atMost d xs

@@ -10,6 +10,7 @@ ghost use Rattle.delays.specs.Ranks.{Ranked, Surveyed, Collected, inside
 // Room for the delays between the pivots. A list of this length or less is searched directly.
 const FEW: usize = 32_768;
 
+// Delays in a sample.
 const SAMPLE: usize = 16_384;
 // Ranks of the sample on either side of the one sought: three standard deviations.
 const MARGIN: u32 = 192;
@@ -20,6 +21,7 @@ pub struct Pivots {
     pub hi: u32,
 }
 
+// What one pass over the list finds.
 pub struct Counts {
     // the least delay
     pub least: u32,
@@ -32,6 +34,7 @@ pub struct Counts {
     pub upto_hi: u32,
 }
 
+// The lesser of two.
 fn lesser(a: u32, b: u32) -> u32
     ensures { λ r. ⌜ r ≡ min a b ⌝ }
 {

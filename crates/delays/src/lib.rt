@@ -22,6 +22,7 @@ pub struct Figures {
     pub range_met: bool,
 }
 
+// What the operation gives.
 pub enum Outcome {
     Refused(Refusal),
     Answered(Figures),

@@ -37,14 +37,19 @@ place-above-requires c κs = search needs
 returns-3 : tie.Need-returns-3
 unfolding delays largestDelay
 returns-3 c =
-    judged-field _ _ _ _ (c .before .before .before .before .before .before .before .if1 .left) (c .before .before .before .survey .ensures .all) (c .before .if3 .taken) (c .place-above .ensures)
+    let short = c .before .before .before .before .before .before .before .if1 .left in
+    let survey = c .before .before .before .survey .ensures in
+    judged-field _ _ _ _ short (survey .all) (c .before .if3 .taken) (c .place-above .ensures)
 
 ranked-requires : tie.Need-ranked-requires
 ranked-requires c κs = search needs
 
 sub-answer : tie.Need-sub-answer
 sub-answer c =
-    least-under _ _ _ _ (c .before .before .before .before .before .before .before .before .before .before .pre .1) (c .before .before .before .before .before .before .rank .ensures) (c .before .ranked .ensures) _ (c .before .before .before .before .survey .ensures .lowest)
+    let given = c .before .before .before .before .before .before .before .before .before .before .pre in
+    let asked = c .before .before .before .before .before .before .rank .ensures in
+    let survey = c .before .before .before .before .survey .ensures in
+    least-under _ _ _ _ (given .1) asked (c .before .ranked .ensures) _ (survey .lowest)
 
 answer-requires-2 : tie.Need-answer-requires-2
 answer-requires-2 c κs = search needs
@@ -52,9 +57,13 @@ answer-requires-2 c κs = search needs
 returns-4 : tie.Need-returns-4
 unfolding delays largestDelay
 returns-4 c =
+    let given = c .before .before .before .before .before .before .before .before .before .before .before .pre in
+    let short = c .before .before .before .before .before .before .before .before .before .if1 .left in
+    let asked = c .before .before .before .before .before .before .before .rank .ensures in
+    let survey = c .before .before .before .before .before .survey .ensures in
+    let all = c .before .before .before .if3 .left in
     c .answer2 .ensures
-    ∙ judged-found _ _ _ _ _ _ (c .before .before .before .before .before .before .before .before .before .if1 .left) (c .before .before .before .before .before .survey .ensures .all) (c .before .before .before .if3 .left) (c .before .before .before .before .before .before .before .before .before .before .before .pre .1)
-    (c .before .before .before .before .before .before .before .rank .ensures) (c .before .before .ranked .ensures) (c .before .before .before .before .before .survey .ensures .lowest)
+    ∙ judged-found _ _ _ _ _ _ short (survey .all) all (given .1) asked (c .before .before .ranked .ensures) (survey .lowest)
 
 pub judge-spec : {M : Type 1} → statement M
 judge-spec =

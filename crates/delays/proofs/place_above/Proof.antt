@@ -26,11 +26,10 @@ shared-slice-read-if1 c = search needs
 
 returns : tie.Need-returns Inv-loop μ-loop
 returns c =
-    omega (
-      arith,
-      place-here (c .before .before .before .before .args .largest) (c .before .before .before .before .args .list .now) (c .before .before .before .loop .i) (c .before .before .loop-test .taken)
-          (c .if1 .taken),
-    )
+    let start = c .before .before .before .before in
+    let i = c .before .before .before .loop .i in
+    let inside = c .before .before .loop-test .taken in
+    omega (arith, place-here (start .args .largest) (start .args .list .now) i inside (c .if1 .taken))
 
 add-i : tie.Need-add-i Inv-loop μ-loop
 add-i c = search needs
@@ -40,11 +39,10 @@ loop-less c = search needs
 
 loop-again : tie.Need-loop-again Inv-loop μ-loop
 loop-again c =
-    omega (
-      arith,
-      place-on (c .before .before .before .before .args .largest) (c .before .before .before .before .args .list .now) (c .before .before .before .loop .i) (c .before .before .loop-test .taken)
-          (c .if1 .left),
-    )
+    let start = c .before .before .before .before in
+    let i = c .before .before .before .loop .i in
+    let inside = c .before .before .loop-test .taken in
+    omega (arith, place-on (start .args .largest) (start .args .list .now) i inside (c .if1 .left))
 
 returns-2 : tie.Need-returns-2 Inv-loop μ-loop
 returns-2 c =

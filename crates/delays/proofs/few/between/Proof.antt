@@ -19,7 +19,8 @@ slice-aggregate-search c = collected-length _ _ _ _ (c .before .before .gather .
 
 search-requires : tie.Need-search-requires
 search-requires c κs =
-    collected-asked _ _ _ _ _ (c .before .before .gather .ensures) (c .before .before .before .before .before .pre .0) (c .before .before .before .before .before .pre .1) (omega (arith, c .before .before .before .before .before .pre .2))
+    let given = c .before .before .before .before .before .pre in
+    collected-asked _ _ _ _ _ (c .before .before .gather .ensures) (given .0) (given .1) (omega (arith, given .2))
 
 returns : tie.Need-returns
 returns c = rw (c .before .before .before .gather .ensures .content) at (c .search .ensures)

@@ -22,7 +22,9 @@ div-at : tie.Need-div-at
 div-at c = search needs
 
 cast-at : tie.Need-cast-at
-cast-at c = omega (arith, rank-within (c .before .before .before .before .before .args .k) (length (c .before .before .before .before .before .args .list .now)) (c .before .before .before .before .before .pre .1))
+cast-at c =
+    let start = c .before .before .before .before .before in
+    omega (arith, rank-within (start .args .k) (length (start .args .list .now)) (start .pre .1))
 
 slice-aggregate-search : tie.Need-slice-aggregate-search
 slice-aggregate-search c = search needs
@@ -31,7 +33,9 @@ sub-search : tie.Need-sub-search
 sub-search c = search needs
 
 search-requires : tie.Need-search-requires
-search-requires c κs = omega (arith, rank-within (c .before .before .before .before .before .before .before .args .k) (length (c .before .before .before .before .before .before .before .args .list .now)) (c .before .before .before .before .before .before .before .pre .1))
+search-requires c κs =
+    let start = c .before .before .before .before .before .before .before in
+    omega (arith, rank-within (start .args .k) (length (start .args .list .now)) (start .pre .1))
 
 cast-if3 : tie.Need-cast-if3
 cast-if3 c = search needs

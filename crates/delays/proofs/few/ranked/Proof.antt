@@ -20,14 +20,14 @@ sub-between c = search needs
 
 between-requires : tie.Need-between-requires
 between-requires c κs =
-    omega (
-      arith,
-      count-between (c .before .before .before .before .before .before .before .before .before .before .before .before .args .p .lo) (c .before .before .before .before .before .before .before .before .before .before .before .before .args .p .hi) (c .before .before .before .before .before .before .before .before .before .before .before .before .args .list .now) (omega arith),
-    )
+    let start = c .before .before .before .before .before .before .before .before .before .before .before .before in
+    omega (arith, count-between (start .args .p .lo) (start .args .p .hi) (start .args .list .now) (omega arith))
 
 returns-2 : tie.Need-returns-2
 returns-2 c =
-    ranked-between _ _ _ _ _ _ (c .before .before .before .before .before .before .before .before .before .before .before .before .before .pre .3 .1 .upto-lo) (c .before .before .before .before .before .before .before .before .if2 .left) (c .between .ensures)
+    let start = c .before .before .before .before .before .before .before .before .before .before .before .before .before in
+    let over = c .before .before .before .before .before .before .before .before .if2 .left in
+    ranked-between _ _ _ _ _ _ (start .pre .3 .1 .upto-lo) over (c .between .ensures)
 
 returns-3 : tie.Need-returns-3
 returns-3 c = search needs

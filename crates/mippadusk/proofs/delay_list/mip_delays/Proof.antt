@@ -28,7 +28,8 @@ word-requires-2 c κs = search needs
 
 returns-2 : tie.Need-returns-2
 returns-2 c =
-    refused _ _ _ _ (short _ _ _ _ (sym (c .before .before .before .before .read .ensures) ∙ c .before .before .enum-told .given .1) (c .before .if1 .taken)) (c .word2 .ensures)
+    let read = sym (c .before .before .before .before .read .ensures) ∙ c .before .before .enum-told .given .1 in
+    refused _ _ _ _ (short _ _ _ _ read (c .before .if1 .taken)) (c .word2 .ensures)
 
 delays-requires : tie.Need-delays-requires
 delays-requires c κs = search needs
@@ -49,22 +50,20 @@ put-requires c κs = search needs
 
 returns-3 : tie.Need-returns-3
 returns-3 c =
-    refused _ _ _ _
-    (roomy _ _ _ _ (sym (c .before .before .before .before .before .before .before .before .read .ensures) ∙ c .before .before .before .before .before .before .enum-told .given .1) (c .before .before .before .before .before .if1 .left)
-    ∙ sym (c .before .before .before .before .delays .ensures)
-    ∙ c .before .before .r .given .1)
-    (c .word3 .ensures)
+    let read = sym (c .before .before .before .before .before .before .before .before .read .ensures) ∙ c .before .before .before .before .before .before .enum-told .given .1 in
+    let room = c .before .before .before .before .before .if1 .left in
+    let told = sym (c .before .before .before .before .delays .ensures) ∙ c .before .before .r .given .1 in
+    refused _ _ _ _ (roomy _ _ _ _ read room ∙ told) (c .word3 .ensures)
 
 same-length : tie.Need-same-length
 same-length c = search needs
 
 returns-4 : tie.Need-returns-4
 returns-4 c =
-    answered _ _ _ _
-    (roomy _ _ _ _ (sym (c .before .before .before .before .before .before .before .before .before .before .before .read .ensures) ∙ c .before .before .before .before .before .before .before .before .before .enum-told .given .1) (c .before .before .before .before .before .before .before .before .if1 .left)
-    ∙ sym (c .before .before .before .before .before .before .before .delays .ensures)
-    ∙ c .before .before .before .before .before .f .given .1)
-    (c .before .before .put .ensures)
+    let read = sym (c .before .before .before .before .before .before .before .before .before .before .before .read .ensures) ∙ c .before .before .before .before .before .before .before .before .before .enum-told .given .1 in
+    let room = c .before .before .before .before .before .before .before .before .if1 .left in
+    let told = sym (c .before .before .before .before .before .before .before .delays .ensures) ∙ c .before .before .before .before .before .f .given .1 in
+    answered _ _ _ _ (roomy _ _ _ _ read room ∙ told) (c .before .before .put .ensures)
 
 pub mip-delays-spec : {M : Type 1} → statement M
 mip-delays-spec =
