@@ -1,0 +1,8 @@
+-- A refusal as one word.
+use Prim.Native.Nat.{ℕ, _+_, _*_, _^_}
+use Rattle.records.specs.Refusals.{numberOf}
+use Rattle.records.specs.declared.refusal.Refusal.{Refusal}
+
+-- number × 2^32 + place
+abbrev pub wordOf : Refusal → ℕ
+wordOf r = numberOf (r .fault) * 2 ^ 32 + r .place

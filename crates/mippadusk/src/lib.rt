@@ -1,0 +1,3 @@
+// The C interface. Each function answers 0, or its refusal as one word; a refusal writes nothing.
+mod delay_list;
+mod word;

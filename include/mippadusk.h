@@ -1,0 +1,55 @@
+/* Mippadusk: the C interface. Link libmippadusk.a, which `rt staticlib mippadusk` builds.
+ *
+ * A slice is a pointer and a length, next to each other: of bytes in bytes, of words in words. A pointer is never null and is
+ * aligned for its type, also where the length is 0. A slice that is written overlaps no other slice of the call.
+ *
+ * A function answers 0, or its refusal: number * 2^32 + place. The numbers are MIP_SETTINGS and so on, below; the place is that of
+ * the first faulty record, counted from 0, and 0 where no record is at fault. A refusal writes nothing. No other input is asked of
+ * the caller: each function takes any bytes, words and numbers, and either answers or refuses.
+ *
+ * No function allocates, keeps what it was lent, or has state of its own. They use up to 256 KiB of the caller's stack. */
+#ifndef MIPPADUSK_H
+#define MIPPADUSK_H
+
+#include <stddef.h>
+#include <stdint.h>
+
+#ifdef __cplusplus
+extern "C" {
+#endif
+
+#define MIP_SETTINGS 1
+#define MIP_LENGTH 2
+#define MIP_ROOM 3
+#define MIP_FULL 4
+#define MIP_FIELD 5
+#define MIP_OUTSIDE 6
+#define MIP_ORDER 7
+#define MIP_MISMATCH 8
+#define MIP_PAIRS 9
+
+/* The two halves of an answer that is not 0. */
+#define MIP_NUMBER(word) ((uint32_t)((word) >> 32))
+#define MIP_PLACE(word) ((uint32_t)(word))
+
+/* Percentile delay and range of a list of delays, in ns, in any order. The list is read and stays as it is.
+ *
+ * settings   a settings record, 64 bytes; Pr, most delay and most range are taken from it
+ * delays     at most 1,000,000 delays, each at most 1,000,000,000 ns; none is fine
+ * answers    room for 4 words or more; words behind the fourth stay as they are:
+ *              0  the percentile: the least listed delay d with Pr * N <= 1,000,000 * (number of listed delays <= d), 0 with none
+ *              1  the range: the percentile less the least delay, 0 with none
+ *              2  1 where the percentile is at or below the most delay, else 0
+ *              3  1 where the range is at or below the most range, else 0
+ *
+ * Refusals, in this order: MIP_SETTINGS; MIP_ROOM where `answers` is shorter than 4 words; MIP_FULL over 1,000,000 delays; MIP_FIELD
+ * at the first delay above 1,000,000,000. */
+uint64_t mip_delays(const uint8_t *settings, size_t settings_len,
+                    const uint32_t *delays, size_t delays_len,
+                    uint64_t *answers, size_t answers_len);
+
+#ifdef __cplusplus
+}
+#endif
+
+#endif
