@@ -1,0 +1,6 @@
+pub mod Lanes
+pub mod Meant
+pub mod Placing
+pub mod Soundness
+pub mod Strides
+pub mod Writing

@@ -1,0 +1,8 @@
+pub mod Continuing
+pub mod Edges
+pub mod Fractions
+pub mod Labelling
+pub mod Products
+pub mod Reaching
+pub mod Settling
+pub mod Windows
