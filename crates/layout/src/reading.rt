@@ -1,0 +1,1 @@
+// A track read out of bytes, with every rule.
