@@ -1,5 +1,6 @@
 //! Speed of the library against plain Rust, as ratios in one run: `./bench` builds and runs it.
-//! A row is one input: how it is done by the library, and how otherwise. All ways of a row must give the same answer.
+//! First the library is compared with plain Rust on many inputs, valid and damaged. Then a row is one input: how it is done by the
+//! library, and how otherwise. All ways of a row must give the same answer.
 mod delays;
 
 use std::hint::black_box;
@@ -30,7 +31,12 @@ fn measure(row: &Row) {
             let start = Instant::now();
             let answer = black_box((way.run)());
             best[k] = best[k].min(start.elapsed().as_secs_f64());
-            assert!(answer == expected, "{}: {} gives {answer:?}, not {expected:?}", row.name, way.name);
+            assert!(
+                answer == expected,
+                "{}: {} gives {answer:?}, not {expected:?}",
+                row.name,
+                way.name
+            );
         }
     }
     print!("{:34} {} {:8.3} ms", row.name, row.ours.name, best[0] * 1e3);
@@ -41,6 +47,7 @@ fn measure(row: &Row) {
 }
 
 fn main() {
+    delays::compare();
     println!("x R: the other way takes R times as long as the library.");
     delays::rows(&mut measure);
 }

@@ -20,15 +20,15 @@ other-none : (b q : ℕ) → (b ≡ q → ⊥) → hit (eqb b q) ≡ 0
 other-none b q h = rw (ne-eqb b q h)
 
 -- below all buckets
-pub slot-left : (lo w x : ℕ) → x < lo → Slot lo w x 2048
-slot-left lo w x h =
+pub slot-left : (lo w x q : ℕ) → 2048 ≤ q → q < 2056 → x < lo → Slot lo w x q
+slot-left lo w x q least most h =
     record {
       within = omega arith;
       counts =
           λ b p.
           omega (
             arith,
-            other-none b 2048 (omega arith),
+            other-none b q (omega arith),
             lt-one x (lo + b * w) (omega arith),
             lt-one x (lo + (b + 1) * w) (omega arith),
           );
@@ -76,13 +76,13 @@ module _ (lo w x : ℕ) (positive : 0 < w) (above : lo ≤ x) where
   slot-in h = record { within = omega arith; counts = λ b p. in-bucket b }
 
   -- above all buckets
-  pub slot-right : 2048 ≤ (x - lo) / w → Slot lo w x 2048
-  slot-right h =
+  pub slot-right : (q : ℕ) → 2048 ≤ q → q < 2056 → 2048 ≤ (x - lo) / w → Slot lo w x q
+  slot-right q least most h =
       record {
         within = omega arith;
         counts =
             λ b p.
-            omega (arith, in-bucket b, other-none b ((x - lo) / w) (omega arith), other-none b 2048 (omega arith));
+            omega (arith, in-bucket b, other-none b ((x - lo) / w) (omega arith), other-none b q (omega arith));
       }
 
 -- d is x less lo, modulo 2^64
@@ -110,17 +110,17 @@ module _
           | no p ↦ absurd (omega (arith, wrapped (omega arith), div-lt-iff-lt-mul positive .0 h))
         ]
 
-    pub slot-outside : 2048 ≤ d / w → Slot lo w x 2048
-    slot-outside h =
+    pub slot-outside : (q : ℕ) → 2048 ≤ q → q < 2056 → 2048 ≤ d / w → Slot lo w x q
+    slot-outside q least most h =
         elim (decLe lo x) [
-          | yes p ↦ let e : d ≡ x - lo = plain p in slot-right lo w x positive p (rw e at h)
-          | no p ↦ slot-left lo w x (omega arith)
+          | yes p ↦ let e : d ≡ x - lo = plain p in slot-right lo w x positive p q least most (rw e at h)
+          | no p ↦ slot-left lo w x q least most (omega arith)
         ]
 
 -- the table after the first i delays
 pub record Tallied (xs : List ℕ) (lo w i : ℕ) (t : List ℕ) : Type 0 where
   pub within : i ≤ length xs
-  pub long : length t ≡ 2048
+  pub long : length t ≡ 2056
   pub small : (b : ℕ) → getD t b 0 ≤ i
   pub counts :
       (b : ℕ) → b < 2048
@@ -134,18 +134,18 @@ getD-zeros n b =
       | no h ↦ List·getD-eq-default {A = ℕ} (replicate n 0) 0 (omega (arith, length-replicate {A = ℕ} n 0))
     ]
 
-pub tallied-start : (xs : List ℕ) (lo w : ℕ) → Tallied xs lo w 0 (replicate 2048 0)
+pub tallied-start : (xs : List ℕ) (lo w : ℕ) → Tallied xs lo w 0 (replicate 2056 0)
 tallied-start xs lo w =
     record {
       within = zero-le;
-      long = length-replicate {A = ℕ} 2048 0;
-      small = λ b. omega (arith, getD-zeros 2048 b);
-      counts = λ b p. omega (arith, getD-zeros 2048 b);
+      long = length-replicate {A = ℕ} 2056 0;
+      small = λ b. omega (arith, getD-zeros 2056 b);
+      counts = λ b p. omega (arith, getD-zeros 2056 b);
     }
 
-pub tallied-step : (xs : List ℕ) (lo w i : ℕ) (t : List ℕ) (q : ℕ) → i < length xs → q < 2048 → Tallied xs lo w i t
+pub tallied-step : (xs : List ℕ) (lo w i : ℕ) (t : List ℕ) (q : ℕ) → i < length xs → Tallied xs lo w i t
     → Slot lo w (getD xs i 0) q → Tallied xs lo w (i + 1) (set t q (getD t q 0 + 1))
-tallied-step xs lo w i t q h r v s =
+tallied-step xs lo w i t q h v s =
     record {
       within = omega arith;
       long = length-set t q (getD t q 0 + 1) ∙ v .long;
@@ -155,25 +155,6 @@ tallied-step xs lo w i t q h r v s =
           omega (
             arith,
             set-hit t q b (omega arith),
-            v .counts b p,
-            s .counts b p,
-            count-step (λ x. ltb x (lo + (b + 1) * w)) xs i h,
-            count-step (λ x. ltb x (lo + b * w)) xs i h,
-          );
-    }
-
-pub tallied-skip : (xs : List ℕ) (lo w i : ℕ) (t : List ℕ) (q : ℕ) → i < length xs → 2048 ≤ q → Tallied xs lo w i t
-    → Slot lo w (getD xs i 0) q → Tallied xs lo w (i + 1) t
-tallied-skip xs lo w i t q h r v s =
-    record {
-      within = omega arith;
-      long = v .long;
-      small = λ b. omega (arith, v .small b);
-      counts =
-          λ b p.
-          omega (
-            arith,
-            other-none b q (omega arith),
             v .counts b p,
             s .counts b p,
             count-step (λ x. ltb x (lo + (b + 1) * w)) xs i h,

@@ -19,9 +19,9 @@ pub record Ranked (k : ℕ) (xs : List ℕ) (d : ℕ) : Type 0 where
   pub before : below d xs < k
   pub reached : k ≤ atMost d xs
 
--- x is counted in bucket q alone, of 2,048 buckets of width w from lo on.
+-- x is counted in bucket q alone, of 2,048 buckets of width w from lo on; from 2,048 on, q is no bucket.
 pub record Slot (lo w x q : ℕ) : Type 0 where
-  pub within : q ≤ 2048
+  pub within : q < 2056
   pub counts :
       (b : ℕ) → b < 2048 → hit (ltb x (lo + (b + 1) * w)) ≡ hit (eqb b q) + hit (ltb x (lo + b * w))
 

@@ -10,28 +10,28 @@ struct Mark {
     under: u32,
 }
 
-// The bucket of x among 2,048 of width 2^s from lo on; 2,048 for what lies outside them. What is below lo wraps to above all.
-fn slot(x: u32, lo: u32, s: u32) -> usize
-    requires { ⌜ s < 32 ⌝ }
+// The bucket of x among 2,048 of width 2^s from lo on, or `spare` behind them for what lies outside. What is below lo wraps to above
+// all.
+fn slot(x: u32, lo: u32, s: u32, spare: usize) -> usize
+    requires { ⌜ (s < 32) × (2048 ≤ spare) × (spare < 2056) ⌝ }
     ensures { λ r. ⌜ Slot lo (2 ^ s) x r ⌝ }
 {
     let from_lo = std::num::wrapping_sub_u64(x as u64, lo as u64);
     let q = from_lo >> s;
-    if q < 2048 { q as usize } else { 2048 }
+    if q < 2048 { q as usize } else { spare }
 }
 
-// How many delays fall into each bucket.
-fn tally(list: &[u32], lo: u32, s: u32) -> [u32; 2048]
+// How many delays fall into each bucket. Those outside go to eight spare places in turn: one place would have each delay wait for
+// the one before it, and a branch would be guessed wrong.
+fn tally(list: &[u32], lo: u32, s: u32) -> [u32; 2056]
     requires { ⌜ (s < 32) × (length (now list) < 2 ^ 32) ⌝ }
     ensures { λ r. ⌜ Tally (now (list .entry)) lo (2 ^ s) r ⌝ }
 {
-    let mut t = [0u32; 2048];
+    let mut t = [0u32; 2056];
     let mut i = 0;
     while i < list.len() {
-        let q = slot(list[i], lo, s);
-        if q < 2048 {
-            t[q] = t[q] + 1;
-        }
+        let q = slot(list[i], lo, s, 2048 + i % 8);
+        t[q] = t[q] + 1;
         i += 1;
     }
     t

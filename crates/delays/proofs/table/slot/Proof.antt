@@ -23,7 +23,8 @@ returns-2 : tie.Need-returns-2
 returns-2 c =
     slot-outside (c .before .before .args .lo) (2 ^ c .before .before .args .s) (c .before .before .args .x)
     (c .before .wrapping-sub-u64 .result) (pow-pos (c .before .before .args .s)) (pow-mono {j = 31} (omega arith)) (omega arith) (omega arith)
-    (omega arith) (c .before .wrapping-sub-u64 .ensures) (c .if1 .left)
+    (omega arith) (c .before .wrapping-sub-u64 .ensures) (c .before .before .args .spare) (c .before .before .pre .1) (c .before .before .pre .2)
+    (c .if1 .left)
 
 pub slot-spec : {M : Type 1} → statement M
 slot-spec = tie.close (tie.spec wrapping-sub-u64-requires shr-q returns returns-2)

@@ -1,10 +1,9 @@
 -- `tally` counts the delays by buckets. The invariant: the table holds the counts of the delays passed.
 use Prim.Native.Nat.{_-_, _^_}
-use mathlib.Core.Logic.{⊎-elim}
 use borrow.Author.Needs.{needs}
 use native.Mathlib.Omega.{arith}
 use lib.ListN.{length}
-use Rattle.delays.proofs.Buckets.{Tallied, tallied-start, tallied-step, tallied-skip, tallied-end}
+use Rattle.delays.proofs.Buckets.{Tallied, tallied-start, tallied-step, tallied-end}
 use Rattle.delays.proofs.table.tally.Statement.{statement}
 use Rattle.delays.proofs.table.tally.Tie as tie
 
@@ -23,6 +22,9 @@ mul-slot c = search needs
 shared-slice-read-slot : tie.Need-shared-slice-read-slot Inv-loop μ-loop
 shared-slice-read-slot c = search needs
 
+add-slot : tie.Need-add-slot Inv-loop μ-loop
+add-slot c = search needs
+
 slot-requires : tie.Need-slot-requires Inv-loop μ-loop
 slot-requires c κs = search needs
 
@@ -36,9 +38,9 @@ add-t : tie.Need-add-t Inv-loop μ-loop
 add-t c =
     omega (
       arith,
-      c .before .before .before .before .loop .inv .small (c .before .slot .result),
-      c .before .before .before .loop-test .taken,
-      c .before .before .before .before .before .before .pre .1,
+      c .before .before .before .loop .inv .small (c .slot .result),
+      c .before .before .loop-test .taken,
+      c .before .before .before .before .before .pre .1,
     )
 
 mul-t-2 : tie.Need-mul-t-2 Inv-loop μ-loop
@@ -55,11 +57,7 @@ loop-less c = search needs
 
 loop-again : tie.Need-loop-again Inv-loop μ-loop
 loop-again c =
-    let h = c .before .before .before .loop-test .taken in
-    let v = c .before .before .before .before .loop .inv in
-    ⊎-elim (λ w. rw (w .1) (tallied-step _ _ _ _ _ _ h (w .0 .taken) v (c .before .slot .ensures)))
-    (λ w. rw (w .1) (tallied-skip _ _ _ _ _ _ h (w .0 .left) v (c .before .slot .ensures)))
-    (c .if1 .came)
+    tallied-step _ _ _ _ _ _ (c .before .before .loop-test .taken) (c .before .before .before .loop .inv) (c .slot .ensures)
 
 returns : tie.Need-returns Inv-loop μ-loop
 returns c = tallied-end _ _ _ _ _ (c .loop-test .left) (c .before .loop .inv)
@@ -73,6 +71,7 @@ tally-spec =
     loop-holds
     mul-slot
     shared-slice-read-slot
+    add-slot
     slot-requires
     mul-t
     array-read-t
