@@ -1,3 +1,4 @@
 -- The laws of this crate that others cite.
 pub mod Laying
+pub mod Shifting
 pub mod Sizes
