@@ -1,4 +1,5 @@
 // Runs document 01's edges on the compiled code and prints what they give; `stdout` is what they must give.
+mod delays_edges;
 mod measure_edges;
 mod output;
 mod records_edges;
@@ -6,4 +7,5 @@ mod records_edges;
 fn main() {
     records_edges::run();
     measure_edges::run();
+    delays_edges::run();
 }

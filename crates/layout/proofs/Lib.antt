@@ -1,4 +1,5 @@
 -- The laws of this crate that others cite.
 pub mod Laying
+pub mod RoundTrip
 pub mod Shifting
 pub mod Sizes

@@ -97,3 +97,33 @@ module _ (pre s : List ℕ) where
   pub words-behind : (i : ℕ) → wordsMeet (pre ++ s) (length pre + i) ≡ wordsMeet s i
   unfolding wordsMeet
   words-behind i = rw (number-behind 8 i) (words-by-kind (eqb (numberAt 8 s i) 0) (eqb (numberAt 8 s i) 1) (eqb (numberAt 8 s i) 2) i)
+
+  -- at the place right behind what stands in front
+
+  module _ (n : ℕ) (e : length pre ≡ n) where
+    right-behind : length pre + 0 ≡ n
+    right-behind = omega arith
+
+    pub number-at : (w : ℕ) → numberAt w (pre ++ s) n ≡ numberAt w s 0
+    number-at w = ap (numberAt w (pre ++ s)) (sym right-behind) ∙ number-behind w 0
+
+    pub zeros-at : (w : ℕ) → areZero w (pre ++ s) n ≡ areZero w s 0
+    zeros-at w = ap (areZero w (pre ++ s)) (sym right-behind) ∙ zeros-behind w 0
+
+    pub run-at : runIn (pre ++ s) n ≡ runIn s 0
+    run-at = ap (runIn (pre ++ s)) (sym right-behind) ∙ run-behind 0
+
+    pub middle-at : middleIn (pre ++ s) n ≡ middleIn s 0
+    middle-at = ap (middleIn (pre ++ s)) (sym right-behind) ∙ middle-behind 0
+
+    pub run-words-at : runWords (pre ++ s) n ≡ runWords s 0
+    run-words-at = ap (runWords (pre ++ s)) (sym (right-behind-twice)) ∙ run-words-behind 0 0
+      where
+        right-behind-twice : length pre + 0 + 0 ≡ n
+        right-behind-twice = omega arith
+
+    pub track-at : trackIn (pre ++ s) n ≡ trackIn s 0
+    track-at = ap (trackIn (pre ++ s)) (sym right-behind) ∙ track-behind 0
+
+    pub words-at : wordsMeet (pre ++ s) n ≡ wordsMeet s 0
+    words-at = ap (wordsMeet (pre ++ s)) (sym right-behind) ∙ words-behind 0
