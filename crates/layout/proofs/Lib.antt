@@ -3,3 +3,4 @@ pub mod Laying
 pub mod RoundTrip
 pub mod Shifting
 pub mod Sizes
+pub mod WriteRead

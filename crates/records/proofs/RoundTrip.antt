@@ -79,12 +79,12 @@ read-write v counts delays =
     rw (w, e, counts, delays, written-flag v, written-spare v)
 
 -- the bytes of a part are the bytes of its number
-part-bytes : (w : ℕ) (s : List ℕ) (i : ℕ) → Bytes s → bytesOf w (numberAt w s i) ≡ part w s i
+pub part-bytes : (w : ℕ) (s : List ℕ) (i : ℕ) → Bytes s → bytesOf w (numberAt w s i) ≡ part w s i
 unfolding numberAt
 part-bytes w s i h = ap (λ k. bytesOf k (number (part w s i))) (sym (length-part w s i)) ∙ bytes-of-number (part w s i) (part-is-bytes w s i h)
 
 -- so are zeros
-zero-bytes : (w : ℕ) (s : List ℕ) (i : ℕ) → areZero w s i ≡ true → bytesOf w 0 ≡ part w s i
+pub zero-bytes : (w : ℕ) (s : List ℕ) (i : ℕ) → areZero w s i ≡ true → bytesOf w 0 ≡ part w s i
 unfolding areZero bytesOf part
 zero-bytes zero s i e = refl
 zero-bytes (suc w) s i e =
