@@ -31,7 +31,7 @@ use Rattle.records.proofs.SettingsRecord.{LabelValid, label-valid}
 narrow-same : (e : Evaluator) → fitsWords e ≡ true → narrowOf e ≡ labelOf e
 unfolding fitsWords fitRules narrowOf
 narrow-same e f =
-    rw (cut (e .length) _ (at 0), cut (e .n) _ (at 1), cut (e .p) _ (at 2), cut (e .weights) _ (at 3), cut (e .c) _ (at 4), cut (e .u) _ (at 5), cut (e .dl) _ (at 6), cut (e .jt) _ (at 7))
+    rw (cut (e .length) 4294967296 (at 0), cut (e .n) 256 (at 1), cut (e .p) 256 (at 2), cut (e .weights) 256 (at 3), cut (e .c) 4294967296 (at 4), cut (e .u) 4294967296 (at 5), cut (e .dl) 4294967296 (at 6), cut (e .jt) 4294967296 (at 7))
   where
     at : (k : ℕ) → getD (fitRules e) k true ≡ true
     at k = rule-met (fitRules e) k f

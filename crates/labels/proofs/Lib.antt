@@ -1,3 +1,4 @@
+pub mod Determined
 pub mod Lanes
 pub mod Meant
 pub mod Placing

@@ -61,14 +61,9 @@ sound-at s e k h d =
     ∙ ap (λ (xs : List IntervalRead). getD xs k IntervalRead.Invalid) (sound-all 0 0 (intervalsIn s) e)
     ∙ getD-valid (intervalsOf (intervalsIn s)) k (rw (sound-length s e) h) d
 
--- so none of them is invalid
-pub sound-never : (s : List ℕ) → checked 0 0 (intervalsIn s) ≡ Sequence.Sound → (k : ℕ) → k < length s / 48 → intervalOf (recordAt s 48 k) ≡ IntervalRead.Invalid → ⊥
-sound-never s e k h i =
-    let z : _≡_ {A = ℕ} 0 1 = told (sym (sound-at s e k h none) ∙ i) in
-    omega arith
+-- so the k-th record is valid
+pub sound-kth : (s : List ℕ) → checked 0 0 (intervalsIn s) ≡ Sequence.Sound → (k : ℕ) → k < length s / 48 → (v : Interval) × (intervalOf (recordAt s 48 k) ≡ IntervalRead.Valid v)
+sound-kth s e k h = (getD (intervalsOf (intervalsIn s)) k none, sound-at s e k h none)
   where
     none : Interval
     none = record { number = 0; sent = 0; lost = 0; late = 0; pairs = 0; jumpy = 0; sum = 0; least = 0; most = 0; maintenance = false }
-
-    told : {v : Interval} → IntervalRead.Valid v ≡ IntervalRead.Invalid → _≡_ {A = ℕ} 0 1
-    told e = cc

@@ -7,7 +7,7 @@ use native.Mathlib.Omega.{arith}
 use native.Mathlib.Numerals.{add-one}
 use lib.ListN.{length, getD, take, length-map, List·getD-map}
 use lib.Seq.{take-suc, take-all, length-take-le}
-use Rattle.records.specs.Interval.{intervalOf}
+use Rattle.records.specs.Interval.{intervalOf, intervalIn}
 use Rattle.records.specs.Many.{recordAt}
 use Rattle.records.specs.Sequence.{intervalsIn, checked}
 use Rattle.records.specs.declared.interval.Interval.{Interval}
@@ -16,19 +16,26 @@ use Rattle.records.specs.declared.interval.Sequence.{Sequence}
 use Rattle.records.specs.declared.settings.LabelSettings.{LabelSettings}
 use Rattle.rule.specs.Evaluator.{fresh, gain}
 use Rattle.rule.specs.Labels.{settled}
+use Rattle.rule.specs.declared.Counts.{Counts}
 use Rattle.rule.specs.declared.Track.{Track}
+use Rattle.records.proofs.IntervalRecord.{interval-read}
 use Rattle.records.proofs.SettingsRecord.{label-valid}
 use Rattle.rule.proofs.Labelling.{settled-and-pending, pending-short}
-use Rattle.labels.specs.Marked.{lossMark, compositeMark}
+use Rattle.labels.specs.Marked.{countsOf, countsIn, lossMark, compositeMark}
 use Rattle.labels.specs.Stretch.{intervalsOf, labelBytes, labelByte, settledIn, leftIn, bothTurned, bothSettled, bothLeft, Settling, Leaving, Writing}
 use Rattle.labels.specs.declared.stretch.Tracks.{Tracks}
 use Rattle.labels.proofs.Lanes.{Lane, lane-start, lane-step, lane-other, lane-full, full-other, lanes-bytes}
-use Rattle.labels.proofs.Soundness.{sound-length, sound-at}
+use Rattle.labels.proofs.Soundness.{sound-length, sound-at, sound-kth}
 use Rattle.labels.proofs.Strides.{length-strided}
 
 -- the marks of the records by one rule
 abbrev pub marksIn : (Interval → Bool) → List ℕ → List Bool
 marksIn mark r = map mark (intervalsOf (intervalsIn r))
+
+-- the counts of a valid record are those in its bytes
+counts-read : (s : List ℕ) (v : Interval) → intervalOf s ≡ IntervalRead.Valid v → countsIn s ≡ countsOf v
+unfolding countsIn intervalIn
+counts-read s v e = ap countsOf (interval-read s v e .1)
 
 -- before record k
 pub record Lanes (l : LabelSettings) (r : List ℕ) (k : ℕ) (t : Tracks) (part : List ℕ) : Type 0 where
@@ -87,9 +94,9 @@ module _ (l : LabelSettings) (r : List ℕ) (k : ℕ) (t : Tracks) (p part : Lis
   pub lanes-leaving : k ≡ length r / 48 → Leaving k t part
   lanes-leaving e = record { loss-known = loss-pending .1; composite-known = composite-pending .1; room = rw e (s .long) }
 
-  -- one turn of the loop
-  pub lanes-step : k < length r / 48 → (v : Interval) → intervalOf (recordAt r 48 k) ≡ IntervalRead.Valid v → Lanes l r (k + 1) (bothTurned l t v) (bothSettled part k l t v)
-  lanes-step h v e =
+  -- one interval more
+  lanes-next : k < length r / 48 → (v : Interval) → intervalOf (recordAt r 48 k) ≡ IntervalRead.Valid v → Lanes l r (k + 1) (bothTurned l t (countsOf v)) (bothSettled part k l t (countsOf v))
+  lanes-next h v e =
       record {
         most = omega arith;
         long = length-strided _ _ _ _ ∙ length-strided _ _ _ _ ∙ s .long;
@@ -113,6 +120,10 @@ module _ (l : LabelSettings) (r : List ℕ) (k : ℕ) (t : Tracks) (p part : Lis
 
       b : Bool
       b = compositeMark l v
+
+  -- one turn of the loop, by the counts in the record's bytes
+  pub lanes-step : k < length r / 48 → {x : Counts} → x ≡ countsIn (recordAt r 48 k) → Lanes l r (k + 1) (bothTurned l t x) (bothSettled part k l t x)
+  lanes-step h e = let at = sound-kth r (w .sound) k h in rw (e ∙ counts-read (recordAt r 48 k) (at .0) (at .1)) (lanes-next h (at .0) (at .1))
 
   -- the end: what is pending is undecided, and the part holds the label bytes
   pub lanes-done : k ≡ length r / 48 → bothLeft part k t ≡ labelBytes l (intervalsOf (intervalsIn r))

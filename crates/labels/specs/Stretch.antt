@@ -19,8 +19,9 @@ use Rattle.records.specs.declared.settings.LabelSettings.{LabelSettings}
 use Rattle.records.specs.declared.settings.SettingsRead.{SettingsRead}
 use Rattle.rule.specs.Evaluator.{gain, turn, labelling}
 use Rattle.rule.specs.Labels.{Label, settled, undecided}
+use Rattle.rule.specs.declared.Counts.{Counts}
 use Rattle.rule.specs.declared.Track.{Track}
-use Rattle.labels.specs.Marked.{lossMark, compositeMark}
+use Rattle.labels.specs.Marked.{lossMark, compositeMark, lossHigh, compositeHigh}
 use Rattle.labels.specs.declared.stretch.Labelled.{Labelled}
 use Rattle.labels.specs.declared.stretch.Tracks.{Tracks}
 
@@ -86,11 +87,11 @@ abbrev pub settledIn : List ℕ → ℕ → ℕ → ℕ → Track → Bool → L
 settledIn l k lane n t m = strided l (2 * (k + 1 - gain n t m) + lane) (gain n t m) (labelByte (settled m))
 
 -- both lanes: the marks of an interval, and what is left pending at the end
-abbrev pub bothTurned : LabelSettings → Tracks → Interval → Tracks
-bothTurned l t v = record { loss = turn (l .n) (t .loss) (lossMark l v); composite = turn (l .n) (t .composite) (compositeMark l v) }
+abbrev pub bothTurned : LabelSettings → Tracks → Counts → Tracks
+bothTurned l t x = record { loss = turn (l .n) (t .loss) (lossHigh l x); composite = turn (l .n) (t .composite) (compositeHigh l x) }
 
-abbrev pub bothSettled : List ℕ → ℕ → LabelSettings → Tracks → Interval → List ℕ
-bothSettled p k l t v = settledIn (settledIn p k 0 (l .n) (t .loss) (lossMark l v)) k 1 (l .n) (t .composite) (compositeMark l v)
+abbrev pub bothSettled : List ℕ → ℕ → LabelSettings → Tracks → Counts → List ℕ
+bothSettled p k l t x = settledIn (settledIn p k 0 (l .n) (t .loss) (lossHigh l x)) k 1 (l .n) (t .composite) (compositeHigh l x)
 
 abbrev pub leftIn : List ℕ → ℕ → ℕ → Track → List ℕ
 leftIn p k lane t = strided p (2 * (k - t .pending) + lane) (t .pending) 2

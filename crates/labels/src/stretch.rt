@@ -2,8 +2,6 @@
 // once, when it is settled, or as undecided at the end: the work grows with the number of intervals alone.
 use crate::marks;
 use records::interval;
-use records::interval::Interval;
-use records::interval::IntervalRead;
 use records::interval::Sequence;
 use records::many;
 use records::many::Counted;
@@ -13,6 +11,7 @@ use records::room;
 use records::settings;
 use records::settings::LabelSettings;
 use records::settings::SettingsRead;
+use rule::Counts;
 use rule::Track;
 ghost use mathlib.Core.Path.{_≡_};
 ghost use Prim.Native.Nat.{_+_, _-_, _*_, _/_, _≤_, _<_};
@@ -76,12 +75,12 @@ pub struct Tracks {
 }
 
 // Interval `k` on both lanes.
-fn settle_both(part: &mut [u8], k: usize, l: LabelSettings, t: Tracks, v: Interval) -> Tracks
+fn settle_both(part: &mut [u8], k: usize, l: LabelSettings, t: Tracks, x: Counts) -> Tracks
     requires { ⌜ Settling l k t (now part) ⌝ }
-    ensures { λ r. ⌜ (r ≡ bothTurned l t v) × (now (part .exit) ≡ bothSettled (now (part .entry)) k l t v) ⌝ }
+    ensures { λ r. ⌜ (r ≡ bothTurned l t x) × (now (part .exit) ≡ bothSettled (now (part .entry)) k l t x) ⌝ }
 {
     let n = l.n as u64;
-    let m = marks::marks(l, v);
+    let m = marks::high(l, x);
     let a = t.loss;
     let b = t.composite;
     let loss = settle(part, k, 0, n, a, m.loss);
@@ -116,10 +115,7 @@ fn write_labels(l: LabelSettings, r: &[u8], part: &mut [u8])
     };
     let mut k: usize = 0;
     while k < count {
-        let IntervalRead::Valid(v) = interval::read_at(r, k) else {
-            return;
-        };
-        t = settle_both(part, k, l, t, v);
+        t = settle_both(part, k, l, t, marks::counts_at(r, k));
         k += 1;
     }
     leave_both(part, count, t);

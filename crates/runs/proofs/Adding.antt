@@ -1,5 +1,5 @@
 -- Figures are a commutative monoid, on all values: sums add, and the rest joins by `max`.
-use mathlib.Core.Path.{_≡_, refl}
+use mathlib.Core.Path.{_≡_}
 use Prim.Native.Nat.{ℕ, _+_, max}
 use native.Mathlib.Omega.{arith}
 use Rattle.runs.specs.declared.figures.Load.{Load}

@@ -1,13 +1,13 @@
 -- Figures, runs and middles of sound intervals meet the rules, and so do those put together of such as meet them.
 use mathlib.Core.Path.{_≡_, refl, sym, ap, _∙_, subst}
-use mathlib.Core.Bool.{Bool, true, false, cond, not, _&&_, Bool·beq}
-use Prim.Native.Nat.{ℕ, zero, suc, _+_, _-_, _*_, _≤_, _<_, max}
+use mathlib.Core.Bool.{Bool, true, false, cond, not, _&&_}
+use Prim.Native.Nat.{ℕ, _+_, _-_, _*_, _≤_, _<_, max}
 use native.Mathlib.Omega.{arith}
-use native.Mathlib.Nat.{add-zero, zero-add, mul-le-mul-right}
+use native.Mathlib.Nat.{mul-le-mul-right}
 use native.Mathlib.Decide.{decLt}
 use lib.Dec.{leb, eqb}
 use borrow.Author.Tests.{leb-true, eqb-false, eq-eqb, ne-eqb}
-use Rattle.records.specs.Limits.{frames, largestDelay}
+use Rattle.records.specs.Limits.{largestDelay}
 use Rattle.runs.specs.declared.run.Marked.{Marked}
 use Rattle.runs.specs.declared.figures.Load.{Load}
 use Rattle.runs.specs.declared.figures.Figures.{Figures}
@@ -18,7 +18,7 @@ use Rattle.runs.specs.declared.middles.Label.{Label}
 use Rattle.runs.specs.declared.middles.Label.the-variants.{Inherits, Says}
 use Rattle.runs.specs.declared.middles.Middle.{Middle}
 use Rattle.runs.specs.Figures.{idle, both, none, plus}
-use Rattle.runs.specs.Runs.{long, one, tie, closed, edge, headroomOf, gross, loadOf, single, glue, same, figuresOf, quietRun}
+use Rattle.runs.specs.Runs.{long, one, tie, closed, edge, headroomOf, gross, loadOf, single, glue, figuresOf, quietRun}
 use Rattle.runs.specs.Middles.{unit, placed, verdict, shut, over, timesBy, times, quietMiddle}
 use Rattle.runs.specs.Sound.{Sound}
 use Rattle.runs.specs.Valid.{LoadValid, FiguresValid, EdgesValid, EdgesFor, RunValid, LabelValid, MiddleFits, MiddleValid}

@@ -1,10 +1,9 @@
 -- Middles are a monoid; to put all in maintenance is a homomorphism of it and goes through `shut`.
-use mathlib.Core.Path.{_≡_, refl, ap}
-use mathlib.Core.Bool.{Bool, true, false, cond}
+use mathlib.Core.Path.{_≡_, refl}
+use mathlib.Core.Bool.{Bool, true, false}
 use Prim.Native.Nat.{ℕ, _+_}
 use native.Mathlib.Nat.{add-assoc, add-zero, zero-add}
 use native.Mathlib.Omega.{arith}
-use lib.Dec.{leb}
 use Rattle.runs.specs.declared.figures.Figures.{Figures}
 use Rattle.runs.specs.declared.run.Edges.the-variants.{Split}
 use Rattle.runs.specs.declared.run.Run.{Run}
@@ -12,7 +11,7 @@ use Rattle.runs.specs.declared.middles.Label.{Label}
 use Rattle.runs.specs.declared.middles.Label.the-variants.{Inherits, Says}
 use Rattle.runs.specs.declared.middles.Middle.{Middle}
 use Rattle.runs.specs.Figures.{idle, none, plus, both}
-use Rattle.runs.specs.Runs.{figuresOf, quietRun, closed, one, long}
+use Rattle.runs.specs.Runs.{figuresOf, quietRun, closed}
 use Rattle.runs.specs.Middles.{unit, placed, verdict, shut, over, timesBy, times, quietMiddle}
 use Rattle.runs.proofs.Adding.{plus-assoc, plus-comm, plus-none, none-plus}
 use Rattle.runs.proofs.Tying.{long-zero}

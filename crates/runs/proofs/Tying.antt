@@ -1,15 +1,13 @@
 -- Edges tie together associatively, on all values, and `Solid 0` is their unit; so two runs of one mark glue together associatively.
-use mathlib.Core.Path.{_≡_, refl, ap}
+use mathlib.Core.Path.{_≡_, refl}
 use mathlib.Core.Bool.{Bool, true, false, Bool·beq, and-false}
-use Prim.Native.Nat.{ℕ, zero, suc, _+_}
-use native.Mathlib.Omega.{arith}
+use Prim.Native.Nat.{ℕ, zero, suc}
 use native.Mathlib.Nat.{add-assoc, add-zero, zero-add}
-use lib.Dec.{leb, leb·suc-zero}
+use lib.Dec.{leb·suc-zero}
 use Rattle.runs.specs.declared.run.Edges.{Edges}
 use Rattle.runs.specs.declared.run.Edges.the-variants.{Solid, Split}
 use Rattle.runs.specs.declared.run.Run.{Run}
-use Rattle.runs.specs.Figures.{idle, both}
-use Rattle.runs.specs.Runs.{long, one, tie, closed, glue, same, quietRun}
+use Rattle.runs.specs.Runs.{long, tie, glue, same, quietRun}
 use Rattle.runs.proofs.Adding.{both-assoc, both-idle}
 
 pub tie-assoc : (p : ℕ) (a b c : Edges) → tie p (tie p a b) c ≡ tie p a (tie p b c)

@@ -1,5 +1,5 @@
 -- Middles: what runs that can no longer grow come to, up to the one label that may still come from the left.
-use mathlib.Core.Bool.{Bool, true, false, cond}
+use mathlib.Core.Bool.{true, false, cond}
 use Prim.Native.Nat.{ℕ, _+_}
 use lib.Dec.{leb}
 use Rattle.runs.specs.declared.figures.Figures.{Figures}

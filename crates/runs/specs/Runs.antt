@@ -1,6 +1,6 @@
 -- Runs: stretches of equal marks, with what their intervals add up to and where maintenance splits those that count.
 use mathlib.Core.Bool.{Bool, true, false, cond, not, _&&_, Bool·beq}
-use Prim.Native.Nat.{ℕ, zero, suc, _+_, _-_}
+use Prim.Native.Nat.{ℕ, _+_, _-_}
 use lib.Dec.{leb, eqb}
 use Rattle.records.specs.Limits.{largestDelay}
 use Rattle.runs.specs.declared.run.Marked.{Marked}

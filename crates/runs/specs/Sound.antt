@@ -1,7 +1,7 @@
 -- The rules that an interval record meets, as far as a track sees it.
 use mathlib.Core.Path.{_≡_}
 use mathlib.Core.List.{List, [], _∷_}
-use Prim.Native.Nat.{ℕ, _-_, _*_, _≤_}
+use Prim.Native.Nat.{_-_, _*_, _≤_}
 use Rattle.records.specs.Limits.{frames, largestDelay}
 use Rattle.runs.specs.declared.run.Marked.{Marked}
 

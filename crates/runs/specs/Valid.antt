@@ -1,6 +1,6 @@
 -- The rules that figures, runs and middles meet, over values. They keep every sum in its field.
 use mathlib.Core.Path.{_≡_}
-use mathlib.Core.Bool.{Bool, true, false, not}
+use mathlib.Core.Bool.{Bool, true, false}
 use Prim.Native.Nat.{ℕ, _+_, _-_, _*_, _≤_, _<_}
 use Rattle.records.specs.Limits.{frames, largestDelay}
 use Rattle.runs.specs.declared.figures.Load.{Load}

@@ -11,7 +11,7 @@ use Rattle.runs.specs.declared.run.Edges.{Edges}
 use Rattle.runs.specs.declared.run.Edges.the-variants.{Solid, Split}
 use Rattle.runs.specs.Runs.{long, one, tie, closed, edge}
 use Rattle.tracks.specs.Tally.{number, firstAll, begun, runsOf}
-use Rattle.runs.proofs.Tying.{tie-assoc, solid-tie, tie-solid, long-zero}
+use Rattle.runs.proofs.Tying.{tie-assoc, solid-tie, long-zero}
 
 -- the edges of a stretch, from whether each interval is high and counts
 unfoldable pub ties : ℕ → List Bool → Edges

@@ -1,7 +1,7 @@
 -- What the operations on tracks ask of those below them follows from the rules, where both together are no more intervals than there are.
 use mathlib.Core.Path.{_≡_, subst}
 use mathlib.Core.Bool.{false}
-use Prim.Native.Nat.{ℕ, _+_, _≤_, _<_}
+use Prim.Native.Nat.{ℕ, _+_, _<_}
 use native.Mathlib.Omega.{arith}
 use Rattle.runs.specs.declared.run.Run.{Run}
 use Rattle.runs.specs.declared.middles.Label.the-variants.{Says}
@@ -11,13 +11,15 @@ use Rattle.runs.specs.Middles.{shut, times}
 use Rattle.runs.specs.Valid.{RunValid, MiddleFits, spanOf, RunsFit, MiddlesFit}
 use Rattle.runs.proofs.Keeping.{none-valid, placed-fits, shut-valid, times-fits}
 use Rattle.runs.proofs.Fitting.{runs-fit, middles-fit, span-fits}
+use Rattle.tracks.specs.declared.Front.{Front}
+use Rattle.tracks.specs.declared.Front.the-variants.{After}
 use Rattle.tracks.specs.declared.Track.{Track}
 use Rattle.tracks.specs.declared.Track.the-variants.{One, Many}
-use Rattle.tracks.specs.Tracks.{push, start}
-use Rattle.tracks.specs.Valid.{ManyValid, TrackValid, PushFits, GraftFits, JoinFits, FinishFits, TrackFits}
+use Rattle.tracks.specs.Tracks.{push, withLast, start}
+use Rattle.tracks.specs.Valid.{ManyValid, TrackValid, PushFits, GraftFits, JoinFits, FinishFits, TrackFits, TurnFits}
 use Rattle.tracks.proofs.Keeping.{push-valid}
 
-start-fits : (p : ℕ) → MiddleFits p 0 start
+pub start-fits : (p : ℕ) → MiddleFits p 0 start
 unfolding start none idle
 start-fits p = placed-fits p 0 (Says false) none (none-valid p) (omega arith)
 
@@ -53,6 +55,21 @@ module _ (n p : ℕ) where
   pub push-times : (a : Track) (r l : Run) (m : Middle) (t : Run) → PushFits n p a r → a ≡ Many l m t → MiddlesFit m (shut n p t)
   push-times a r l m t h e =
       let v : ManyValid n p (h .i) l m t = many-of (h .i) a l m t (h .left) e in
+      middles-fit p (v .size) (t .len) m (shut n p t) (v .middle .figures) (shut-valid n p t (v .last) .figures) (omega (arith, v .lengths, h .room))
+
+  -- what `turned` asks
+  turn-many : (f : Front) (l : Run) (m : Middle) (t : Run) (h : TurnFits n p f t) → f ≡ After l m → ManyValid n p (h .i) l m t
+  unfolding TrackValid withLast
+  turn-many f l m t h e = subst (λ z. TrackValid n p (h .i) (withLast z t)) e (h .valid)
+
+  pub turn-shuts : (f : Front) (l : Run) (m : Middle) (t : Run) → TurnFits n p f t → f ≡ After l m → spanOf (t .edges) < 4294967294
+  turn-shuts f l m t h e =
+      let v : ManyValid n p (h .i) l m t = turn-many f l m t h e in
+      span-fits p t (v .last) (omega (arith, v .lengths, h .room))
+
+  pub turn-times : (f : Front) (l : Run) (m : Middle) (t : Run) → TurnFits n p f t → f ≡ After l m → MiddlesFit m (shut n p t)
+  turn-times f l m t h e =
+      let v : ManyValid n p (h .i) l m t = turn-many f l m t h e in
       middles-fit p (v .size) (t .len) m (shut n p t) (v .middle .figures) (shut-valid n p t (v .last) .figures) (omega (arith, v .lengths, h .room))
 
   -- what `graft` asks
@@ -114,7 +131,7 @@ module _ (n p : ℕ) where
       let v : ManyValid n p (h .i) l m t = many-of (h .i) a l m t (h .valid) e in
       middles-fit p 0 (l .len) start (shut n p l) (start-fits p) (shut-valid n p l (v .first) .figures) (omega (arith, v .lengths, h .room))
 
-  begun-fits : (l : Run) → RunValid p l → MiddleFits p (0 + l .len) (times start (shut n p l))
+  pub begun-fits : (l : Run) → RunValid p l → MiddleFits p (0 + l .len) (times start (shut n p l))
   begun-fits l v = times-fits p 0 (l .len) start (shut n p l) (start-fits p) (shut-valid n p l v .figures)
 
   pub whole-times-2 : (a : Track) (l : Run) (m : Middle) (t : Run) → TrackFits n p a → a ≡ Many l m t → MiddlesFit (times start (shut n p l)) m

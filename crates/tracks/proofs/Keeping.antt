@@ -18,7 +18,7 @@ use Rattle.runs.proofs.Keeping.{single-valid, glue-valid, shut-valid, unit-vali
 use Rattle.tracks.specs.declared.Track.{Track}
 use Rattle.tracks.specs.declared.Track.the-variants.{Nothing, One, Many}
 use Rattle.tracks.specs.Tracks.{push, graft, join, pushAll, summary, quiet}
-use Rattle.tracks.specs.Valid.{ManyValid, TrackValid}
+use Rattle.tracks.specs.Valid.{TrackValid}
 use Rattle.tracks.proofs.Deciding.{beq-yes, other}
 
 -- marks that differ, and that agree

@@ -9,3 +9,4 @@ pub mod Keeping
 pub mod Fitting
 pub mod Serving
 pub mod Starred
+pub mod Bounding

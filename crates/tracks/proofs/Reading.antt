@@ -1,10 +1,10 @@
 -- What the whole of a made track reports is the tally by the labels: the figures are read off as 01's counts and sums, the least delay
 -- from the headroom. And the report of a period: what lies before and after it is put in maintenance, which changes no label and takes
 -- it out of the tally.
-use mathlib.Core.Path.{_≡_, refl, sym, ap, _∙_}
-use mathlib.Core.Bool.{Bool, true, false, cond, not, _&&_, and-false}
+use mathlib.Core.Path.{_≡_, refl, ap, _∙_}
+use mathlib.Core.Bool.{Bool, true, false, cond, and-false}
 use mathlib.Core.List.{List, [], _∷_, _++_, map, append-assoc, append-nil}
-use Prim.Native.Nat.{ℕ, zero, suc, _+_, _-_, _≤_, _<_, min, max}
+use Prim.Native.Nat.{ℕ, suc, _+_, _-_, _≤_, _<_, max}
 use native.Mathlib.Omega.{arith}
 use native.Mathlib.Nat.{add-zero, zero-add}
 use lib.Dec.{eqb, ltb}
@@ -13,13 +13,11 @@ use borrow.Author.Tests.{ltb-true, ltb-false, eq-eqb, ne-eqb}
 use Rattle.rule.specs.Labels.{Label, settled, undecided}
 use Rattle.records.specs.Limits.{largestDelay}
 use Rattle.runs.specs.declared.run.Marked.{Marked}
-use Rattle.runs.specs.declared.figures.Load.{Load}
-use Rattle.runs.specs.declared.figures.Totals.{Totals}
 use Rattle.runs.specs.Figures.{idle, both, reported}
-use Rattle.runs.specs.Runs.{headroomOf, gross, maintained}
+use Rattle.runs.specs.Runs.{gross, maintained}
 use Rattle.runs.specs.Sound.{Sound, AllSound}
-use Rattle.tracks.specs.Tally.{counts, those, highs, number, runsOf, total, delivering, smallest, greatest, totalled, tally, Labels, marks}
-use Rattle.tracks.specs.Tracks.{tallied, whole, sorted, summary, join, quiet}
+use Rattle.tracks.specs.Tally.{counts, those, highs, total, delivering, smallest, greatest, totalled, tally, Labels, marks}
+use Rattle.tracks.specs.Tracks.{tallied, whole, summary, join, quiet}
 use Rattle.runs.proofs.Keeping.{headroom-heard, headroom-silent}
 use Rattle.tracks.proofs.Joining.{summary-append, quiet-summary}
 use Rattle.tracks.proofs.Counting.{NoneOf, number-append, number-none, runs-after, runs-before}

@@ -28,7 +28,7 @@ count-placed Inherits f = omega arith
 count-placed (Says true) f = omega arith
 count-placed (Says false) f = omega arith
 
-count-shut : (n p : ℕ) (r : Run) → countBetween (shut n p r) ≡ r .load .count
+pub count-shut : (n p : ℕ) (r : Run) → countBetween (shut n p r) ≡ r .load .count
 unfolding shut figuresOf
 count-shut n p r = count-placed (verdict n r) (figuresOf p r)
 
@@ -38,7 +38,7 @@ count-times-by Inherits a b = omega arith
 count-times-by (Says true) a b = omega arith
 count-times-by (Says false) a b = omega arith
 
-count-times : (a b : Middle) → countBetween (times a b) ≡ countBetween a + countBetween b
+pub count-times : (a b : Middle) → countBetween (times a b) ≡ countBetween a + countBetween b
 unfolding times
 count-times a b = count-times-by (a .label) a b
 

@@ -1,22 +1,21 @@
 -- The figures of the intervals with one label, over a stretch: they add up at the border of two runs, and over a run of one label
 -- they are the figures that the run keeps.
-use mathlib.Core.Path.{_≡_, refl, sym, ap, _∙_}
+use mathlib.Core.Path.{_≡_, refl, sym, _∙_}
 use mathlib.Core.Bool.{Bool, true, false, cond, not, _&&_, and-false}
 use mathlib.Core.List.{List, [], _∷_, _++_, map}
-use Prim.Native.Nat.{ℕ, zero, suc, _+_, _≤_, _<_}
+use Prim.Native.Nat.{ℕ, suc, _+_, _≤_, _<_}
 use native.Mathlib.Omega.{arith}
 use native.Mathlib.Nat.{add-zero, zero-add, add-suc, suc-add}
 use lib.ListN.{length, length-append}
-use Rattle.rule.specs.Labels.{Label, settled, undecided}
+use Rattle.rule.specs.Labels.{Label}
 use Rattle.runs.specs.declared.run.Marked.{Marked}
 use Rattle.runs.specs.declared.figures.Load.{Load}
 use Rattle.runs.specs.declared.figures.Figures.{Figures}
-use Rattle.runs.specs.declared.run.Edges.{Edges}
 use Rattle.runs.specs.declared.run.Run.{Run}
 use Rattle.runs.specs.Figures.{idle, both, none, plus}
-use Rattle.runs.specs.Runs.{edge, tie, closed, gross, loadOf, single, glue, figuresOf}
+use Rattle.runs.specs.Runs.{gross, loadOf, single, glue, figuresOf}
 use Rattle.tracks.specs.Tally.{is, counts, those, highs, number, runsOf}
-use Rattle.runs.proofs.Adding.{both-assoc, both-idle, idle-both, plus-none}
+use Rattle.runs.proofs.Adding.{both-assoc, both-idle, idle-both}
 use Rattle.runs.proofs.Tying.{tie-solid}
 use Rattle.tracks.proofs.Counting.{ties, ties-append, runs-closed, runs-cut, runs-after, runs-none, NoneOf, number-append, number-none}
 

@@ -2,8 +2,8 @@
 -- 1,000 ns. The tally by the labels is that of the whole, whatever gives the labels their meaning, and the whole computes.
 use mathlib.Core.Path.{_≡_, refl, sym, ap, _∙_, subst}
 use mathlib.Core.Bool.{true, false}
-use mathlib.Core.List.{List, [], _∷_, _++_}
-use Prim.Native.Nat.{ℕ, _<_, _≤_}
+use mathlib.Core.List.{[], _∷_}
+use Prim.Native.Nat.{ℕ}
 use native.Mathlib.Omega.{arith}
 use Rattle.rule.specs.Labels.{Label}
 use Rattle.records.specs.Limits.{frames, largestDelay}

@@ -4,7 +4,7 @@
 use mathlib.Core.Path.{_≡_, refl, sym, ap, _∙_}
 use mathlib.Core.Bool.{Bool, true, false, cond, not, _||_, Bool·beq}
 use mathlib.Core.List.{List, [], _∷_, _++_, append-nil, append-assoc}
-use Prim.Native.Nat.{ℕ, zero, suc, _+_, _≤_, _<_}
+use Prim.Native.Nat.{ℕ, _+_, _≤_}
 use native.Mathlib.Omega.{arith}
 use native.Mathlib.Nat.{add-zero, zero-add, add-assoc}
 use lib.Dec.{leb}
@@ -19,8 +19,7 @@ use Rattle.runs.specs.declared.middles.Label.{Label}
 use Rattle.runs.specs.declared.middles.Label.the-variants.{Inherits, Says}
 use Rattle.runs.specs.declared.middles.Middle.{Middle}
 use Rattle.tracks.specs.declared.Outcome.{Outcome}
-use Rattle.tracks.specs.declared.Track.{Track}
-use Rattle.tracks.specs.declared.Track.the-variants.{Nothing, One, Many}
+use Rattle.tracks.specs.declared.Track.the-variants.{One, Many}
 use Rattle.runs.specs.Figures.{none, plus, both, idle}
 use Rattle.runs.specs.Runs.{single, glue, same, figuresOf}
 use Rattle.runs.specs.Middles.{unit, placed, verdict, shut, times, timesBy, over}

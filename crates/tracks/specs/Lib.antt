@@ -1,3 +1,4 @@
 pub mod Tracks
 pub mod Tally
 pub mod Valid
+pub mod Bounds

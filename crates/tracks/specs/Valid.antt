@@ -6,9 +6,11 @@ use Prim.Native.Nat.{ℕ, _+_, _≤_}
 use Rattle.records.specs.Limits.{intervals}
 use Rattle.runs.specs.declared.run.Run.{Run}
 use Rattle.runs.specs.declared.middles.Middle.{Middle}
+use Rattle.tracks.specs.declared.Front.{Front}
 use Rattle.tracks.specs.declared.Track.{Track}
 use Rattle.tracks.specs.declared.Track.the-variants.{Nothing, One, Many}
 use Rattle.runs.specs.Valid.{RunValid, MiddleFits, MiddleValid}
+use Rattle.tracks.specs.Tracks.{withLast}
 
 -- a track of two runs or more, of `len` intervals
 pub record ManyValid (n p len : ℕ) (l : Run) (m : Middle) (t : Run) : Type 0 where
@@ -57,4 +59,9 @@ pub record FinishFits (p : ℕ) (m : Middle) (t : Run) : Type 0 where
 pub record TrackFits (n p : ℕ) (t : Track) : Type 0 where
   pub i : ℕ
   pub valid : TrackValid n p i t
+  pub room : i ≤ intervals
+
+pub record TurnFits (n p : ℕ) (f : Front) (t : Run) : Type 0 where
+  pub i : ℕ
+  pub valid : TrackValid n p i (withLast f t)
   pub room : i ≤ intervals

@@ -1,11 +1,9 @@
 -- `labels::stretch::write_labels`: before record `k` both lanes hold what the first `k` marks settle, and at the end the label bytes.
--- Every record is valid, so none is met that is not.
 use borrow.Author.Needs.{needs}
 use mathlib.Core.Path.{_≡_, sym, ap, _∙_}
 use Prim.Native.Nat.{_-_, _/_}
 use native.Mathlib.Omega.{arith}
 use lib.ListN.{length}
-use Rattle.labels.proofs.Soundness.{sound-never}
 use Rattle.labels.proofs.Strides.{length-strided}
 use Rattle.labels.proofs.Writing.{Lanes, lanes-start, lanes-settling, lanes-leaving, lanes-step, lanes-done}
 use Rattle.labels.proofs.stretch.write_labels.Statement.{statement}
@@ -20,33 +18,21 @@ abbrev μ-loop : tie.MeasureT-loop
 loop-holds : tie.Need-loop-holds Inv-loop μ-loop
 loop-holds c = let s = c .before .before in lanes-start (s .args .l) (s .args .r .now) (s .args .part .now) (s .pre .room)
 
-same-length : tie.Need-same-length Inv-loop μ-loop
-same-length c =
-    let s = c .before .before .before .before .before .before .before in
-    let o = c .before .before .before .before .loop in
-    o .inv .long ∙ sym (s .pre .room)
-
-returns : tie.Need-returns Inv-loop μ-loop
-returns c =
-    let s = c .before .before .before .before .before .before .before in
-    let o = c .before .before .before .before .loop in
-    absurd (sound-never (s .args .r .now) (s .pre .sound) (o .k) (search needs) (sym (c .before .before .read-at .ensures) ∙ c .enum-told .given .1))
-
 settle-both-requires : tie.Need-settle-both-requires Inv-loop μ-loop
 settle-both-requires c κs =
-    let s = c .before .before .before .before .before .before .before .before .before in
-    let o = c .before .before .before .before .before .before .loop in
+    let s = c .before .before .before .before .before .before in
+    let o = c .before .before .before .loop in
     lanes-settling (s .args .l) (s .args .r .now) (o .k) (o .t) (s .args .part .now) (o .part) (s .pre) (o .inv) (search needs)
 
 add-k : tie.Need-add-k Inv-loop μ-loop
-add-k c = omega (arith, c .before .before .before .before .before .before .before .before .loop-test)
+add-k c = omega (arith, c .before .before .before .before .before .loop-test)
 
 loop-again : tie.Need-loop-again Inv-loop μ-loop
 loop-again c =
-    let s = c .before .before .before .before .before .before .before .before .before .before .before .before in
-    let o = c .before .before .before .before .before .before .before .before .before .loop in
+    let s = c .before .before .before .before .before .before .before .before .before in
+    let o = c .before .before .before .before .before .before .loop in
     rw (c .before .before .settle-both .ensures .0, c .before .before .settle-both .ensures .1)
-    (lanes-step (s .args .l) (s .args .r .now) (o .k) (o .t) (s .args .part .now) (o .part) (s .pre) (o .inv) (search needs) (c .before .before .before .before .before .v .given .0 .0) (sym (c .before .before .before .before .before .before .before .read-at .ensures) ∙ c .before .before .before .before .before .v .given .1))
+    (lanes-step (s .args .l) (s .args .r .now) (o .k) (o .t) (s .args .part .now) (o .part) (s .pre) (o .inv) (search needs) (c .before .before .before .counts-at .ensures))
 
 leave-both-requires : tie.Need-leave-both-requires Inv-loop μ-loop
 leave-both-requires c κs =
@@ -55,18 +41,18 @@ leave-both-requires c κs =
     let e : o .k ≡ length (s .args .r .now) / 48 = omega (arith, o .inv .most) in
     rw e at (lanes-leaving (s .args .l) (s .args .r .now) (o .k) (o .t) (s .args .part .now) (o .part) (s .pre) (o .inv) e)
 
-same-length-2 : tie.Need-same-length-2 Inv-loop μ-loop
-same-length-2 c =
+same-length : tie.Need-same-length Inv-loop μ-loop
+same-length c =
     let s = c .before .before .before .before .before .before .before .before in
     let o = c .before .before .before .before .before .loop in
     ap length (c .before .before .leave-both .ensures) ∙ length-strided _ _ _ _ ∙ length-strided _ _ _ _ ∙ o .inv .long ∙ sym (s .pre .room)
 
-returns-2 : tie.Need-returns-2 Inv-loop μ-loop
-returns-2 c =
+returns : tie.Need-returns Inv-loop μ-loop
+returns c =
     let s = c .before .before .before .before .before .before .before .before in
     let o = c .before .before .before .before .before .loop in
     let e : o .k ≡ length (s .args .r .now) / 48 = omega (arith, o .inv .most) in
     c .before .before .leave-both .ensures ∙ rw e at (lanes-done (s .args .l) (s .args .r .now) (o .k) (o .t) (s .args .part .now) (o .part) (s .pre) (o .inv) e)
 
 pub write-labels-spec : {M : Type 1} → statement M
-write-labels-spec = tie.close (tie.spec Inv-loop μ-loop loop-holds (λ c κs. search needs) (λ c. search needs) (λ c. search needs) same-length returns settle-both-requires add-k (λ c. search needs) loop-again leave-both-requires same-length-2 returns-2)
+write-labels-spec = tie.close (tie.spec Inv-loop μ-loop loop-holds (λ c κs. search needs) settle-both-requires add-k (λ c. search needs) loop-again leave-both-requires same-length returns)

@@ -1,0 +1,25 @@
+-- What every tally of a track that meets the rules keeps to, made or not: an interval's rules over all that is counted, and no more counted
+-- than there is.
+use mathlib.Core.Path.{_≡_}
+use Prim.Native.Nat.{ℕ, _+_, _-_, _*_, _≤_}
+use Rattle.records.specs.Limits.{frames, largestDelay}
+use Rattle.runs.specs.declared.figures.Totals.{Totals}
+use Rattle.tracks.specs.declared.Tally.{Tally}
+
+pub record Bounded (p : ℕ) (t : Totals) : Type 0 where
+  pub high : t .high ≤ t .count
+  pub runs : p * t .runs ≤ t .high
+  pub unasked : p ≡ 0 → t .runs ≡ 0
+  pub few : t .sent ≤ frames * t .count
+  pub lost-of-sent : t .lost ≤ t .sent
+  pub silent : t .sent ≡ t .lost → t .most ≡ 0
+  pub ordered : t .least ≤ t .most
+  pub within : t .most ≤ largestDelay
+  pub from : t .least * (t .sent - t .lost) ≤ t .sum
+  pub to : t .sum ≤ t .most * (t .sent - t .lost)
+
+-- of a track of `len` intervals
+pub record TallyBounded (p len : ℕ) (t : Tally) : Type 0 where
+  pub available : Bounded p (t .available)
+  pub undecided : Bounded p (t .undecided)
+  pub counted : t .available .count + t .unavailable + t .undecided .count ≤ len
