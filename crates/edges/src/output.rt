@@ -18,6 +18,15 @@ pub fn number(n: u64) {
     io::print_decimal(STDOUT_FILENO, n);
 }
 
+// A number with nothing before it.
+pub fn plain(n: u64) {
+    io::print_decimal(STDOUT_FILENO, n);
+}
+
+pub fn digit(n: u8) {
+    plain(n as u64);
+}
+
 // 1 or 0.
 pub fn bit(b: bool) {
     if b {

@@ -19,5 +19,5 @@ marked-sound b v f =
       ordered = f .least-fact;
       within = f .most-fact;
       from = f .low-fact;
-      to = f .high-fact
+      to = f .high-fact;
     }
