@@ -1,0 +1,2 @@
+-- The starred lines of document 01 that need more than one crate's definitions.
+pub mod FromFrames
