@@ -1,3 +1,4 @@
 pub mod Determined
 pub mod Following
+pub mod Places
 pub mod Words

@@ -44,7 +44,7 @@ compositeOf e = trackOf (e .«composite_label») (e .«composite_pending»)
 abbrev pub heldOf : Evaluator → Held
 heldOf e = record { label = labelOf e; loss = lossOf e; composite = compositeOf e }
 
--- valid: valid settings, at most 3,000,000 fed, and on each track what some marks of the number fed leave
+-- valid: valid settings, at most 3,000,000 fed, and on each track what some marks of the number fed leave (`reachable` is `Possible` as a test)
 unfoldable pub evaluatorRules : Evaluator → List Bool
 evaluatorRules e =
     labelMeets (labelOf e)

@@ -1,6 +1,7 @@
 pub mod Determined
 pub mod Lanes
 pub mod Meant
+pub mod Places
 pub mod Placing
 pub mod Soundness
 pub mod Strides

@@ -39,7 +39,8 @@ unfoldable pub told : ℕ → Track → List Bool → List Bool
 told n t [] = []
 told n t (m ∷ ms) = replicate (gain n t m) m ++ told n (turn n t m) ms
 
--- the labels of a whole known sequence from interval 0: those settled, and the pending ones undecided
+-- the labels of a whole known sequence from interval 0: those settled, and the pending ones undecided. Each is what `Meaning` says
+-- (`labels-settle` of proofs/Labelling), so that it computes 01's definition
 unfoldable pub labelling : ℕ → List Bool → List Label
 labelling n ms = map settled (told n fresh ms) ++ replicate (run n fresh ms .pending) undecided
 
@@ -47,6 +48,6 @@ labelling n ms = map settled (told n fresh ms) ++ replicate (run n fresh ms .pen
 unfoldable pub Possible : ℕ → ℕ → Track → Type 0
 Possible n fed t = (ms : List Bool) × (length ms ≡ fed) × (run n fresh ms ≡ t)
 
--- the same as a test: the pending marks are fewer than n, and there was room for them, and for the n high marks that an unavailable label takes
+-- the same as a test (proofs/Reaching shows it both ways): the pending marks are fewer than n, and there was room for them, and for the n high marks that an unavailable label takes
 unfoldable pub reachable : ℕ → ℕ → Track → Bool
 reachable n fed t = ltb (t .pending) n && leb (cond (t .label) (n + t .pending) (t .pending)) fed

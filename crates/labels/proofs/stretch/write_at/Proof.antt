@@ -10,29 +10,53 @@ use Rattle.labels.proofs.stretch.write_at.Statement.{statement}
 use Rattle.labels.proofs.stretch.write_at.Tie as tie
 
 returns : tie.Need-returns
-returns c = rw (sym (c .before .before .before .before .before .has-room .ensures) ∙ c .before .before .before .before .if1 .taken, ← c .before .before .before .check .ensures, c .before .x .given .1)
+returns c =
+    let after-x = c .before in
+    let after-check = after-x .before .before in
+    let after-if1 = after-check .before in
+    let after-has-room = after-if1 .before in
+    rw (sym (after-has-room .has-room .ensures) ∙ after-if1 .if1 .taken, ← after-check .check .ensures, after-x .x .given .1)
 
 add-write-labels : tie.Need-add-write-labels
-add-write-labels c = omega (arith, room-within (length (c .before .before .before .before .before .before .before .args .out .now)) (c .before .before .before .before .before .before .before .args .at) (2 * c .before .before .before .before .before .before .before .args .n) (sym (c .before .before .before .before .has-room .ensures) ∙ c .before .before .before .if1 .taken))
+add-write-labels c =
+    let after-if1 = c .before .before .before in
+    let after-has-room = after-if1 .before in
+    let start = after-has-room .before .before .before in
+    omega (arith, room-within (length (start .args .out .now)) (start .args .at) (2 * start .args .n) (sym (after-has-room .has-room .ensures) ∙ after-if1 .if1 .taken))
 
 part-write-labels-end : tie.Need-part-write-labels-end
-part-write-labels-end c = room-within (length (c .before .before .before .before .before .before .before .args .out .now)) (c .before .before .before .before .before .before .before .args .at) (2 * c .before .before .before .before .before .before .before .args .n) (sym (c .before .before .before .before .has-room .ensures) ∙ c .before .before .before .if1 .taken)
+part-write-labels-end c =
+    let after-if1 = c .before .before .before in
+    let after-has-room = after-if1 .before in
+    let start = after-has-room .before .before .before in
+    room-within (length (start .args .out .now)) (start .args .at) (2 * start .args .n) (sym (after-has-room .has-room .ensures) ∙ after-if1 .if1 .taken)
 
 write-labels-requires : tie.Need-write-labels-requires
 write-labels-requires c κs =
-    let a = c .before .before .before .before .before .before .before .before .args in
-    let h : a .at + 2 * a .n ≤ length (a .out .now) = room-within (length (c .before .before .before .before .before .before .before .before .args .out .now)) (c .before .before .before .before .before .before .before .before .args .at) (2 * c .before .before .before .before .before .before .before .before .args .n) (sym (c .before .before .before .before .before .has-room .ensures) ∙ c .before .before .before .before .if1 .taken) in
+    let after-enum-told = c .before in
+    let after-check = after-enum-told .before .before in
+    let after-if1 = after-check .before in
+    let after-has-room = after-if1 .before in
+    let start = after-has-room .before .before .before in
+    let a = start .args in
+    let h : a .at + 2 * a .n ≤ length (a .out .now) = room-within (length (start .args .out .now)) (start .args .at) (2 * start .args .n) (sym (after-has-room .has-room .ensures) ∙ after-if1 .if1 .taken) in
     record {
-      valid = c .before .before .before .before .before .before .before .before .pre .0;
-      sound = sym (c .before .before .before .check .ensures) ∙ c .before .enum-told .given .1;
-      room = simp (length-take, length-drop) (omega (arith, c .before .before .before .before .before .before .before .before .pre .1));
+      valid = start .pre .0;
+      sound = sym (after-check .check .ensures) ∙ after-enum-told .enum-told .given .1;
+      room = simp (length-take, length-drop) (omega (arith, start .pre .1));
     }
 
 returns-2 : tie.Need-returns-2
 returns-2 c =
-    let a = c .before .before .before .before .before .before .before .before .before .before .before .args in
-    let sound = sym (c .before .before .before .before .before .before .check .ensures) ∙ c .before .before .before .before .enum-told .given .1 in
-    rw (sym (c .before .before .before .before .before .before .before .before .has-room .ensures) ∙ c .before .before .before .before .before .before .before .if1 .taken, sound, c .before .before .write-labels .ensures, labels-placed (a .l) (a .r .now) (a .out .now) (a .at) (a .n) sound (c .before .before .before .before .before .before .before .before .before .before .before .pre .1) (room-within (length (c .before .before .before .before .before .before .before .before .before .before .before .args .out .now)) (c .before .before .before .before .before .before .before .before .before .before .before .args .at) (2 * c .before .before .before .before .before .before .before .before .before .before .before .args .n) (sym (c .before .before .before .before .before .before .before .before .has-room .ensures) ∙ c .before .before .before .before .before .before .before .if1 .taken)))
+    let after-write-labels = c .before .before in
+    let after-enum-told = after-write-labels .before .before in
+    let after-check = after-enum-told .before .before in
+    let after-if1 = after-check .before in
+    let after-has-room = after-if1 .before in
+    let start = after-has-room .before .before .before in
+    let a = start .args in
+    let sound = sym (after-check .check .ensures) ∙ after-enum-told .enum-told .given .1 in
+    rw (sym (after-has-room .has-room .ensures) ∙ after-if1 .if1 .taken, sound, after-write-labels .write-labels .ensures, labels-placed (a .l) (a .r .now) (a .out .now) (a .at) (a .n) sound (start .pre .1) (room-within (length (start .args .out .now)) (start .args .at) (2 * start .args .n) (sym (after-has-room .has-room .ensures) ∙ after-if1 .if1 .taken)))
 
 returns-3 : tie.Need-returns-3
 returns-3 c = rw (sym (c .before .has-room .ensures) ∙ c .if1 .left)

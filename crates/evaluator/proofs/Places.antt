@@ -1,0 +1,58 @@
+-- Every refusal of the evaluator's operations is at place 0: there is one record.
+use mathlib.Core.Path.{_≡_, refl}
+use mathlib.Core.Bool.{Bool, true, false, cond}
+use mathlib.Core.List.{List}
+use Prim.Native.Nat.{ℕ}
+use lib.Dec.{eqb}
+use lib.ListN.{length}
+use Rattle.records.specs.Interval.{intervalOf}
+use Rattle.records.specs.Refusals.{refusal}
+use Rattle.records.specs.Settings.{settingsOf}
+use Rattle.records.specs.declared.interval.IntervalRead.{IntervalRead}
+use Rattle.records.specs.declared.refusal.Fault.{Fault}
+use Rattle.records.specs.declared.refusal.Refusal.{Refusal}
+use Rattle.records.specs.declared.settings.SettingsRead.{SettingsRead}
+use Rattle.evaluator.specs.Evaluators.{heldOf, fedWith, answerOf, evaluatorMeets, startFrom, startOf, stepWith, stepOf, movedBy, movedOf}
+use Rattle.evaluator.specs.declared.Evaluator.{Evaluator}
+use Rattle.evaluator.specs.declared.Started.{Started}
+use Rattle.evaluator.specs.declared.Stepped.{Stepped}
+use Rattle.evaluator.specs.declared.Told.{Told}
+
+pub start-place : (s : List ℕ) (x : Refusal) → startOf s ≡ Started.Refused x → x .place ≡ 0
+unfolding startOf
+start-place s x e = by (settingsOf s) e
+  where
+    by : (c : SettingsRead) → startFrom c ≡ Started.Refused x → x .place ≡ 0
+    by (SettingsRead.Valid v) e = cc
+    by SettingsRead.Invalid e = cc
+
+pub step-place : (e : Evaluator) (r : List ℕ) (x : Refusal) → stepOf e r ≡ Stepped.Refused x → x .place ≡ 0
+unfolding stepOf
+step-place e r x h = lengths (eqb (length r) 48) h
+  where
+    no-place : (f : Fault) → Stepped.Refused (refusal f 0) ≡ Stepped.Refused x → x .place ≡ 0
+    no-place f h = cc
+
+    numbers : (z : Bool) (s : Stepped) → ((s ≡ Stepped.Refused x) → x .place ≡ 0) → cond z s (Stepped.Refused (refusal Fault.Order 0)) ≡ Stepped.Refused x → x .place ≡ 0
+    numbers true s k h = k h
+    numbers false s k h = no-place Fault.Order h
+
+    records : (c : IntervalRead) → stepWith e c ≡ Stepped.Refused x → x .place ≡ 0
+    records (IntervalRead.Valid v) h = numbers (eqb (v .number) (e .fed)) (Stepped.Fed (fedWith (heldOf e) (e .fed) v) (answerOf (heldOf e) v)) (λ k. cc) h
+    records IntervalRead.Invalid h = no-place Fault.Field h
+
+    evaluators : (z : Bool) → cond z (stepWith e (intervalOf r)) (Stepped.Refused (refusal Fault.Field 0)) ≡ Stepped.Refused x → x .place ≡ 0
+    evaluators true h = records (intervalOf r) h
+    evaluators false h = no-place Fault.Field h
+
+    lengths : (z : Bool) → cond z (cond (evaluatorMeets e) (stepWith e (intervalOf r)) (Stepped.Refused (refusal Fault.Field 0))) (Stepped.Refused (refusal Fault.Length 0)) ≡ Stepped.Refused x → x .place ≡ 0
+    lengths true h = evaluators (evaluatorMeets e) h
+    lengths false h = no-place Fault.Length h
+
+-- and so for the lent evaluator
+pub step-in-place : (e : Evaluator) (r : List ℕ) (x : Refusal) → movedOf e r .told ≡ Told.Refused x → x .place ≡ 0
+step-in-place e r x h = by (stepOf e r) refl h
+  where
+    by : (s : Stepped) → stepOf e r ≡ s → movedBy e s .told ≡ Told.Refused x → x .place ≡ 0
+    by (Stepped.Fed next a) f h = cc
+    by (Stepped.Refused y) f h = let same : y ≡ x = cc in rw same at (step-place e r y f)
