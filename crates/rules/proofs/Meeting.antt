@@ -292,7 +292,8 @@ many-met n p size len l m t q e =
       lengths = q;
       adjoining = λ z. not-beq (l .mark) (t .mark) (unless (eqb size 0) (not (Bool·beq (l .mark) (t .mark))) (h .1 .1 .1 .0) (eq-eqb size 0 z));
       around = λ z. beq-yes (l .mark) (t .mark) (unless (eqb size 1) (Bool·beq (l .mark) (t .mark)) (h .1 .1 .1 .1 .0) (eq-eqb size 1 z));
-      labelled = ends-met n size (m .label) (l .mark) (t .mark) (h .1 .1 .1 .1 .1 .0);
+      spread = leb-true _ _ (h .1 .1 .1 .1 .1 .0);
+      labelled = ends-met n size (m .label) (l .mark) (t .mark) (h .1 .1 .1 .1 .1 .1 .0);
     }
 
 many-meets : (n p len : ℕ) (l : Run) (m : Middle) (t : Run) (v : ManyValid n p len l m t) → len ≤ intervals → manyMeets n p (v .size) l m t ≡ true
@@ -304,7 +305,7 @@ many-meets n p len l m t v c =
         run-meets p t (v .last) (omega (arith, v .lengths)),
         (
           unless-met (eqb (v .size) 0) (not (Bool·beq (l .mark) (t .mark))) (λ z. beq-not (l .mark) (t .mark) (v .adjoining (eqb-true (v .size) 0 z))),
-          (unless-met (eqb (v .size) 1) (Bool·beq (l .mark) (t .mark)) (λ z. beq-same (l .mark) (t .mark) (v .around (eqb-true (v .size) 1 z))), (ends-meet n (v .size) (m .label) (l .mark) (t .mark) (v .labelled), tt)),
+          (unless-met (eqb (v .size) 1) (Bool·beq (l .mark) (t .mark)) (λ z. beq-same (l .mark) (t .mark) (v .around (eqb-true (v .size) 1 z))), (le-leb _ _ (v .spread), (ends-meet n (v .size) (m .label) (l .mark) (t .mark) (v .labelled), tt))),
         ),
       ),
     )

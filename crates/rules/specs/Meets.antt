@@ -16,6 +16,7 @@ use Rattle.runs.specs.declared.middles.Middle.{Middle}
 use Rattle.runs.specs.Runs.{one}
 use Rattle.tracks.specs.declared.Track.{Track}
 use Rattle.tracks.specs.declared.Track.the-variants.{Nothing, One, Many}
+use Rattle.tracks.specs.Valid.{busy}
 
 -- an interval's rules, with the headroom for the least delay
 abbrev pub loadRules : Load → List Bool
@@ -92,13 +93,15 @@ unfoldable pub endsMeet : ℕ → ℕ → Label → Bool → Bool → Bool
 endsMeet n size Inherits a b = true
 endsMeet n size (Says c) a b = leb (n + one (Bool·beq b c) + one (Bool·beq a c)) size
 
--- a track of two runs or more, with `size` intervals between: where none is, their marks differ, and where one is, they are equal
+-- a track of two runs or more, with `size` intervals between: where none is, their marks differ, and where one is, they are equal.
+-- Something stands between two runs of high marks
 abbrev pub manyRules : ℕ → ℕ → ℕ → Run → Middle → Run → List Bool
 manyRules n p size l m t =
     middleMeets n p size m
     ∷ runMeets p t
     ∷ (not (eqb size 0) || not (Bool·beq (l .mark) (t .mark)))
     ∷ (not (eqb size 1) || Bool·beq (l .mark) (t .mark))
+    ∷ leb (busy m + one (l .mark) + one (t .mark)) (size + 1)
     ∷ endsMeet n size (m .label) (l .mark) (t .mark)
     ∷ []
 
