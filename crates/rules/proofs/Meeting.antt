@@ -18,12 +18,13 @@ use Rattle.runs.specs.declared.middles.Label.{Label}
 use Rattle.runs.specs.declared.middles.Label.the-variants.{Inherits, Says}
 use Rattle.runs.specs.declared.middles.Middle.{Middle}
 use Rattle.runs.specs.Figures.{idle, none}
+use Rattle.runs.specs.Runs.{one}
 use Rattle.tracks.specs.declared.Track.{Track}
 use Rattle.tracks.specs.declared.Track.the-variants.{Nothing, One, Many}
 use Rattle.tracks.specs.Valid.{ManyValid, TrackValid}
 use Rattle.runs.specs.Valid.{LoadValid, FiguresValid, EdgesValid, EdgesFor, RunValid, LabelValid, MiddleValid}
 use Rattle.tracks.proofs.Deciding.{beq-yes, other}
-use Rattle.rules.specs.Meets.{loadRules, loadMeets, figuresRules, figuresMeet, highMeets, lowMeets, runRules, runMeets, idleRules, idleLoad, noFigures, labelMeets, middleRules, middleMeets, manyRules, manyMeets, trackMeets}
+use Rattle.rules.specs.Meets.{loadRules, loadMeets, figuresRules, figuresMeet, highMeets, lowMeets, runRules, runMeets, idleRules, idleLoad, noFigures, labelMeets, middleRules, middleMeets, endsMeet, manyRules, manyMeets, trackMeets}
 
 -- every rule of a list is met
 unfoldable pub Met : List Bool → Type 0
@@ -268,6 +269,17 @@ beq-same : (a b : Bool) → a ≡ b → Bool·beq a b ≡ true
 beq-same a true e = rw e
 beq-same a false e = rw e
 
+ends-met : (n size : ℕ) (l : Label) (a b : Bool) → endsMeet n size l a b ≡ true
+    → (c : Bool) → l ≡ Says c → n + one (Bool·beq b c) + one (Bool·beq a c) ≤ size
+unfolding endsMeet
+ends-met n size l a b e c q = leb-true _ _ (subst (λ z. endsMeet n size z a b ≡ true) q e)
+
+ends-meet : (n size : ℕ) (l : Label) (a b : Bool) → ((c : Bool) → l ≡ Says c → n + one (Bool·beq b c) + one (Bool·beq a c) ≤ size)
+    → endsMeet n size l a b ≡ true
+unfolding endsMeet
+ends-meet n size Inherits a b h = refl
+ends-meet n size (Says c) a b h = le-leb _ _ (h c refl)
+
 many-met : (n p size len : ℕ) (l : Run) (m : Middle) (t : Run) → l .len + (size + t .len) ≡ len → manyMeets n p size l m t ≡ true → ManyValid n p len l m t
 unfolding manyMeets Met
 many-met n p size len l m t q e =
@@ -280,6 +292,8 @@ many-met n p size len l m t q e =
       lengths = q;
       adjoining = λ z. not-beq (l .mark) (t .mark) (unless (eqb size 0) (not (Bool·beq (l .mark) (t .mark))) (h .1 .1 .1 .0) (eq-eqb size 0 z));
       around = λ z. beq-yes (l .mark) (t .mark) (unless (eqb size 1) (Bool·beq (l .mark) (t .mark)) (h .1 .1 .1 .1 .0) (eq-eqb size 1 z));
+      spread = leb-true _ _ (h .1 .1 .1 .1 .1 .0);
+      labelled = ends-met n size (m .label) (l .mark) (t .mark) (h .1 .1 .1 .1 .1 .1 .0);
     }
 
 many-meets : (n p len : ℕ) (l : Run) (m : Middle) (t : Run) (v : ManyValid n p len l m t) → len ≤ intervals → manyMeets n p (v .size) l m t ≡ true
@@ -291,7 +305,7 @@ many-meets n p len l m t v c =
         run-meets p t (v .last) (omega (arith, v .lengths)),
         (
           unless-met (eqb (v .size) 0) (not (Bool·beq (l .mark) (t .mark))) (λ z. beq-not (l .mark) (t .mark) (v .adjoining (eqb-true (v .size) 0 z))),
-          (unless-met (eqb (v .size) 1) (Bool·beq (l .mark) (t .mark)) (λ z. beq-same (l .mark) (t .mark) (v .around (eqb-true (v .size) 1 z))), tt),
+          (unless-met (eqb (v .size) 1) (Bool·beq (l .mark) (t .mark)) (λ z. beq-same (l .mark) (t .mark) (v .around (eqb-true (v .size) 1 z))), (le-leb _ _ (v .spread), (ends-meet n (v .size) (m .label) (l .mark) (t .mark) (v .labelled), tt))),
         ),
       ),
     )

@@ -1,5 +1,5 @@
 -- The rules that a track meets, as tests, each rule a line: what a reader of records looks at. `Valid` of crates `runs` and `tracks` has them as facts.
-use mathlib.Core.Bool.{Bool, false, cond, not, _&&_, _||_, Bool·beq}
+use mathlib.Core.Bool.{Bool, true, false, cond, not, _&&_, _||_, Bool·beq}
 use mathlib.Core.List.{List, [], _∷_}
 use Prim.Native.Nat.{ℕ, _+_, _-_, _*_}
 use lib.Dec.{leb, ltb, eqb}
@@ -13,8 +13,10 @@ use Rattle.runs.specs.declared.run.Run.{Run}
 use Rattle.runs.specs.declared.middles.Label.{Label}
 use Rattle.runs.specs.declared.middles.Label.the-variants.{Inherits, Says}
 use Rattle.runs.specs.declared.middles.Middle.{Middle}
+use Rattle.runs.specs.Runs.{one}
 use Rattle.tracks.specs.declared.Track.{Track}
 use Rattle.tracks.specs.declared.Track.the-variants.{Nothing, One, Many}
+use Rattle.tracks.specs.Valid.{busy}
 
 -- an interval's rules, with the headroom for the least delay
 abbrev pub loadRules : Load → List Bool
@@ -86,13 +88,21 @@ middleRules n p size m =
 unfoldable pub middleMeets : ℕ → ℕ → ℕ → Middle → Bool
 middleMeets n p size m = metBy (figuresMeet p (m .inherited)) (middleRules n p size m)
 
--- a track of two runs or more, with `size` intervals between: where none is, their marks differ, and where one is, they are equal
+-- between a first run of the mark a and a last run of the mark b: a label takes n intervals, and one more to each end that has its mark
+unfoldable pub endsMeet : ℕ → ℕ → Label → Bool → Bool → Bool
+endsMeet n size Inherits a b = true
+endsMeet n size (Says c) a b = leb (n + one (Bool·beq b c) + one (Bool·beq a c)) size
+
+-- a track of two runs or more, with `size` intervals between: where none is, their marks differ, and where one is, they are equal.
+-- Something stands between two runs of high marks
 abbrev pub manyRules : ℕ → ℕ → ℕ → Run → Middle → Run → List Bool
 manyRules n p size l m t =
     middleMeets n p size m
     ∷ runMeets p t
     ∷ (not (eqb size 0) || not (Bool·beq (l .mark) (t .mark)))
     ∷ (not (eqb size 1) || Bool·beq (l .mark) (t .mark))
+    ∷ leb (busy m + one (l .mark) + one (t .mark)) (size + 1)
+    ∷ endsMeet n size (m .label) (l .mark) (t .mark)
     ∷ []
 
 unfoldable pub manyMeets : ℕ → ℕ → ℕ → Run → Middle → Run → Bool

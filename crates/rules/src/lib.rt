@@ -14,8 +14,10 @@ use tracks::Track;
 ghost use mathlib.Core.Path.{_≡_};
 ghost use mathlib.Core.Bool.{cond};
 ghost use Prim.Native.Nat.{_-_, _*_, _≤_};
+ghost use Rattle.runs.specs.Runs.{one};
+ghost use Rattle.tracks.specs.Valid.{busy};
 ghost use Rattle.rules.specs.Marking.{markedAs};
-ghost use Rattle.rules.specs.Meets.{loadMeets, figuresMeet, highMeets, lowMeets, runMeets, idleLoad, noFigures, labelMeets, middleMeets, manyMeets, trackMeets};
+ghost use Rattle.rules.specs.Meets.{loadMeets, figuresMeet, highMeets, lowMeets, runMeets, idleLoad, noFigures, labelMeets, middleMeets, endsMeet, manyMeets, trackMeets};
 
 // The difference, 0 where it would fall below.
 fn monus(a: u64, b: u64) -> u64
@@ -158,15 +160,46 @@ pub fn middle_meets(n: u32, p: u32, size: u32, m: Middle) -> bool
         & label_meets(n, size, label, m)
 }
 
+// 1 where it holds.
+fn one(b: bool) -> u64
+    ensures { λ r. ⌜ r ≡ one b ⌝ }
+    ensures small { λ r. ⌜ r ≤ 1 ⌝ }
+{
+    if b { 1 } else { 0 }
+}
+
+// The high intervals of a middle and its high loss runs.
+fn busy(m: Middle) -> u64
+    ensures { λ r. ⌜ r ≡ busy m ⌝ }
+    ensures small { λ r. ⌜ r ≤ 17179869180 ⌝ }
+{
+    let i = m.inherited;
+    let a = m.available;
+    (i.high as u64) + (i.runs as u64) + ((a.high as u64) + (a.runs as u64))
+}
+
+// A label takes n intervals between, and one more to each end that has its mark.
+fn ends_meet(n: u32, size: u32, l: Label, a: bool, b: bool) -> bool
+    ensures { λ r. ⌜ r ≡ endsMeet n size l a b ⌝ }
+{
+    match l {
+        Label::Inherits => true,
+        Label::Says(c) => (n as u64) + one(b == c) + one(a == c) <= (size as u64),
+    }
+}
+
 // Two runs or more, with `size` intervals between.
 fn many_meets(n: u32, p: u32, size: u32, l: Run, m: Middle, t: Run) -> bool
     ensures { λ r. ⌜ r ≡ manyMeets n p size l m t ⌝ }
 {
+    let label = m.label;
     run_meets(p, l)
         & middle_meets(n, p, size, m)
         & run_meets(p, t)
         & ((size != 0) | !(l.mark == t.mark))
         & ((size != 1) | (l.mark == t.mark))
+        & (busy(m) + one(l.mark) + one(t.mark) <= (size as u64) + 1)
+        & ends_meet(n, size, label, l.mark, t.mark)
 }
 
 // A track of `len` intervals.

@@ -234,7 +234,7 @@ shut-labelled n p r = by (leb n (r .len)) refl
     by true e = rw e (leb-true n (r .len) e)
     by false e = rw e (refl, refl)
 
-placed-label : (v : Label) (f : Figures) → placed v f .label ≡ v
+pub placed-label : (v : Label) (f : Figures) → placed v f .label ≡ v
 unfolding placed
 placed-label Inherits f = refl
 placed-label (Says true) f = refl
@@ -286,7 +286,7 @@ pub times-fits : (p i j : ℕ) (a b : Middle) → MiddleFits p i a → MiddleFit
 unfolding times
 times-fits p i j a b v w = fits-by p i j (a .label) a b v w
 
-times-label : (l : Label) (a b : Middle) → timesBy l a b .label ≡ over l (b .label)
+pub times-label : (l : Label) (a b : Middle) → timesBy l a b .label ≡ over l (b .label)
 unfolding timesBy
 times-label Inherits a b = refl
 times-label (Says true) a b = refl

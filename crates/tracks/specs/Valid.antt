@@ -1,18 +1,25 @@
 -- The rules that a track meets, over values. A made track meets them, a join of two that meet them does, and they keep every sum in its
 -- field. A track that meets them may be one that no intervals make.
 use mathlib.Core.Path.{_≡_}
-use mathlib.Core.Bool.{not}
+use mathlib.Core.Bool.{Bool, not, Bool·beq}
 use Prim.Native.Nat.{ℕ, _+_, _≤_}
 use Rattle.records.specs.Limits.{intervals}
 use Rattle.runs.specs.declared.run.Run.{Run}
+use Rattle.runs.specs.declared.middles.Label.the-variants.{Says}
 use Rattle.runs.specs.declared.middles.Middle.{Middle}
+use Rattle.runs.specs.Runs.{one}
 use Rattle.tracks.specs.declared.Front.{Front}
 use Rattle.tracks.specs.declared.Track.{Track}
 use Rattle.tracks.specs.declared.Track.the-variants.{Nothing, One, Many}
 use Rattle.runs.specs.Valid.{RunValid, MiddleFits, MiddleValid}
 use Rattle.tracks.specs.Tracks.{withLast}
 
--- a track of two runs or more, of `len` intervals
+-- the high intervals of a middle and its high loss runs
+unfoldable pub busy : Middle → ℕ
+busy m = m .inherited .high + m .inherited .runs + (m .available .high + m .available .runs)
+
+-- a track of two runs or more, of `len` intervals. Something stands between two runs of high marks, those at the ends among them; a label
+-- takes n intervals between, and one more to each end that has its mark
 pub record ManyValid (n p len : ℕ) (l : Run) (m : Middle) (t : Run) : Type 0 where
   pub size : ℕ
   pub first : RunValid p l
@@ -21,6 +28,8 @@ pub record ManyValid (n p len : ℕ) (l : Run) (m : Middle) (t : Run) : Type 0 w
   pub lengths : l .len + (size + t .len) ≡ len
   pub adjoining : size ≡ 0 → l .mark ≡ not (t .mark)
   pub around : size ≡ 1 → l .mark ≡ t .mark
+  pub spread : busy m + one (l .mark) + one (t .mark) ≤ size + 1
+  pub labelled : (c : Bool) → m .label ≡ Says c → n + one (Bool·beq (t .mark) c) + one (Bool·beq (l .mark) c) ≤ size
 
 -- a track of `len` intervals
 unfoldable pub TrackValid : ℕ → ℕ → ℕ → Track → Type 0

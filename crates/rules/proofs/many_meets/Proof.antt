@@ -6,7 +6,7 @@ use Rattle.rules.proofs.many_meets.Tie as tie
 
 returns : tie.Need-returns
 unfolding manyMeets
-returns c = rw (c .before .before .before .before .run-meets2 .ensures, c .before .before .before .before .before .middle-meets .ensures, c .before .before .before .before .before .before .run-meets .ensures)
+returns c = rw (c .ends-meet .ensures, c .before .one2 .ensures .0, c .before .before .one .ensures .0, c .before .before .before .busy .ensures .0, c .before .before .before .before .before .before .before .before .run-meets2 .ensures, c .before .before .before .before .before .before .before .before .before .middle-meets .ensures, c .before .before .before .before .before .before .before .before .before .before .run-meets .ensures)
 
 pub many-meets-spec : {M : Type 1} → statement M
-many-meets-spec = tie.close (tie.spec (λ c κs. search needs) (λ c κs. search needs) (λ c κs. search needs) returns)
+many-meets-spec = tie.close (tie.spec (λ c κs. search needs) (λ c κs. search needs) (λ c κs. search needs) (λ c κs. search needs) (λ c κs. search needs) (λ c. search needs) (λ c κs. search needs) (λ c. search needs) (λ c. search needs) (λ c κs. search needs) returns)
