@@ -1,3 +1,5 @@
 -- The laws of this crate that others cite.
+pub mod Judging
 pub mod Placing
+pub mod Validity
 pub mod Zeroing

@@ -5,7 +5,7 @@ use mathlib.Core.List.{List, [], _∷_, _++_, append-assoc}
 use Prim.Native.Nat.{ℕ, _+_, _-_, _≤_}
 use native.Mathlib.Omega.{arith}
 use lib.ListN.{length, take, drop, length-append}
-use lib.Seq.{sets, sets-eq, length-sets}
+use lib.Seq.{sets, sets-eq, length-sets, drop-drop}
 use borrow.Rule.Slice.PartMut.{putMid}
 use Rattle.records.specs.Bytes.{bytesOf, placed}
 use Rattle.records.specs.Settings.{labelBytes}
@@ -25,6 +25,11 @@ part-sets :
 unfolding placed
 part-sets l bs at n e h =
     part-placed l bs at n e h ∙ sym (sets-eq bs l at (omega arith) ∙ append-assoc (take at l) bs (drop (at + length bs) l))
+
+-- a part that is lent on and left as bs
+pub part-filled : (out bs : List ℕ) (at n : ℕ) → length bs ≡ n → putMid at (at + n - at) out bs ≡ placed out at bs
+unfolding placed
+part-filled out bs at n e = let k : at + n - at ≡ length bs = omega arith in rw (k, drop-drop)
 
 pub size-summary : (v : Summary) → length (summaryBytes v) ≡ 1024
 unfolding summaryBytes
