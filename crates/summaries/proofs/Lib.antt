@@ -1,4 +1,5 @@
 -- The laws of this crate that others cite.
+pub mod InField
 pub mod Judging
 pub mod Placing
 pub mod Validity
