@@ -2,5 +2,6 @@
 pub mod InField
 pub mod Judging
 pub mod Placing
+pub mod RoundTrip
 pub mod Validity
 pub mod Zeroing

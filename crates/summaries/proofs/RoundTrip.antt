@@ -1,0 +1,167 @@
+-- Both round trips of the summary record. `read-write`: what is written of a summary that meets the rules is read back as the same summary.
+-- `write-read`: the bytes of a valid summary are the bytes written of its values. Each piece is read behind the pieces in front of it, whose
+-- widths are known, and fits its fields by the rules.
+-- Assumes nothing.
+use mathlib.Core.Path.{_≡_, refl, ap, sym, _∙_}
+use mathlib.Core.Bool.{Bool, true, false}
+use mathlib.Core.List.{List, [], _∷_, _++_, append-assoc}
+use Prim.Native.Nat.{ℕ, zero, suc, _+_, _-_, _^_, _≤_, _<_}
+use native.Mathlib.Omega.{arith}
+use lib.ListN.{length, getD, take, drop, length-append}
+use lib.Dec.{leb, eqb}
+use borrow.Author.Tests.{le-leb, eq-eqb, eqb-true}
+use Rattle.records.specs.Bytes.{number, numberAt, part, bytesOf, areZero, Bytes}
+use Rattle.records.specs.Limits.{intervals}
+use Rattle.records.specs.Settings.{labelIn, labelMeets, shapeBytes, thresholdBytes, labelBytes}
+use Rattle.records.specs.declared.settings.LabelSettings.{LabelSettings}
+use Rattle.records.proofs.Bounds.{intervals-fit}
+use Rattle.records.proofs.Numbers.{number-of-bytes, length-bytes}
+use Rattle.records.proofs.RoundTrip.{length-label, label-read-write}
+use Rattle.rules.specs.Meets.{trackMeets}
+use Rattle.rules.proofs.Meeting.{track-meets}
+use Rattle.tracks.specs.Tracks.{countIn}
+use Rattle.tracks.specs.declared.Track.{Track}
+use Rattle.layout.specs.Bytes.{trackBytes}
+use Rattle.layout.specs.Reading.{trackIn, wordsMeet}
+use Rattle.layout.proofs.RoundTrip.{TrackInField, track-read-write, track-words}
+use Rattle.layout.proofs.Shifting.{number-at, zeros-at, track-at, words-at}
+use Rattle.layout.proofs.Sizes.{size-track}
+use Rattle.summaries.specs.Stored.{summaryIn, headerRules, headerMeets, trackRules, tracksMeet, summaryRules, summaryOf, summaryBytes}
+use Rattle.summaries.specs.declared.stored.Summary.{Summary}
+use Rattle.summaries.specs.declared.stored.SummaryRead.{SummaryRead}
+use Rattle.summaries.proofs.InField.{track-in-field}
+use Rattle.summaries.proofs.Validity.{SummaryValid}
+
+-- the numbers and the label settings, whatever stands behind them
+
+module _ (first after : ℕ) (l : LabelSettings) (rest : List ℕ) where
+  first-back : first < 2 ^ 32 → numberAt 4 (bytesOf 4 first ++ (bytesOf 4 after ++ (labelBytes l ++ rest))) 0 ≡ first
+  unfolding numberAt part bytesOf
+  first-back h = number-of-bytes 4 first (omega arith)
+
+  after-back : after < 2 ^ 32 → numberAt 4 (bytesOf 4 first ++ (bytesOf 4 after ++ (labelBytes l ++ rest))) 4 ≡ after
+  unfolding numberAt part bytesOf
+  after-back h = number-of-bytes 4 after (omega arith)
+
+  label-part : take 24 (drop 8 (bytesOf 4 first ++ (bytesOf 4 after ++ (labelBytes l ++ rest)))) ≡ labelBytes l ++ []
+  unfolding labelBytes shapeBytes thresholdBytes bytesOf
+  label-part = refl
+
+  spare-back : getD (bytesOf 4 first ++ (bytesOf 4 after ++ (labelBytes l ++ rest))) 15 0 ≡ 0
+  unfolding labelBytes shapeBytes thresholdBytes bytesOf
+  spare-back = refl
+
+-- each byte of 0 is 0
+
+zero-byte : (w k : ℕ) → getD (bytesOf w 0) k 0 ≡ 0
+unfolding bytesOf
+zero-byte zero k = refl
+zero-byte (suc w) zero = refl
+zero-byte (suc w) (suc k) = zero-byte w k
+
+all-zero : (s : List ℕ) → ((k : ℕ) → getD s k 0 ≡ 0) → (w i : ℕ) → areZero w s i ≡ true
+unfolding areZero
+all-zero s h zero i = refl
+all-zero s h (suc w) i = rw (h i, all-zero s h w (suc i))
+
+-- the pieces, each behind those in front of it
+
+module _ (v : Summary) where
+  front : List ℕ
+  front = bytesOf 4 (v .first) ++ (bytesOf 4 (v .after) ++ labelBytes (v .label))
+
+  before-loss : length front ≡ 32
+  unfolding front
+  before-loss = rw (length-append, length-append, length-bytes, length-bytes, length-label)
+
+  before-composite : length (front ++ trackBytes (v .loss)) ≡ 248
+  before-composite = rw (length-append, before-loss, size-track)
+
+  before-spare : length (front ++ (trackBytes (v .loss) ++ trackBytes (v .composite))) ≡ 464
+  before-spare = rw (length-append, length-append, before-loss, size-track, size-track)
+
+  at-loss : summaryBytes v ≡ front ++ (trackBytes (v .loss) ++ (trackBytes (v .composite) ++ bytesOf 560 0))
+  unfolding summaryBytes front
+  at-loss = simp append-assoc
+
+  at-composite : summaryBytes v ≡ (front ++ trackBytes (v .loss)) ++ (trackBytes (v .composite) ++ bytesOf 560 0)
+  at-composite = at-loss ∙ sym (append-assoc front (trackBytes (v .loss)) (trackBytes (v .composite) ++ bytesOf 560 0))
+
+  at-spare : summaryBytes v ≡ (front ++ (trackBytes (v .loss) ++ trackBytes (v .composite))) ++ bytesOf 560 0
+  at-spare = at-loss ∙ simp append-assoc
+
+  pub length-summary : length (summaryBytes v) ≡ 1024
+  length-summary = ap length at-spare ∙ rw (length-append, before-spare, length-bytes)
+
+  module _ (f : TrackInField (v .loss)) where
+    loss-back : trackIn (summaryBytes v) 32 ≡ v .loss
+    loss-back = rw at-loss (track-at front _ 32 before-loss ∙ track-read-write (v .loss) (trackBytes (v .composite) ++ bytesOf 560 0) f)
+
+    loss-words : wordsMeet (summaryBytes v) 32 ≡ true
+    loss-words = rw at-loss (words-at front _ 32 before-loss ∙ track-words (v .loss) (trackBytes (v .composite) ++ bytesOf 560 0) f)
+
+  module _ (f : TrackInField (v .composite)) where
+    composite-back : trackIn (summaryBytes v) 248 ≡ v .composite
+    composite-back = rw at-composite (track-at (front ++ trackBytes (v .loss)) _ 248 before-composite ∙ track-read-write (v .composite) (bytesOf 560 0) f)
+
+    composite-words : wordsMeet (summaryBytes v) 248 ≡ true
+    composite-words = rw at-composite (words-at (front ++ trackBytes (v .loss)) _ 248 before-composite ∙ track-words (v .composite) (bytesOf 560 0) f)
+
+  spare-zero : areZero 560 (summaryBytes v) 464 ≡ true
+  spare-zero = rw at-spare (zeros-at (front ++ (trackBytes (v .loss) ++ trackBytes (v .composite))) (bytesOf 560 0) 464 before-spare 560 ∙ all-zero (bytesOf 560 0) (zero-byte 560) 560 0)
+
+-- what is written of a summary that meets the rules
+
+module _ (v : Summary) (h : SummaryValid v) where
+  short : v .after - v .first ≤ intervals
+  short = omega (arith, h .within)
+
+  loss-fits : TrackInField (v .loss)
+  loss-fits = track-in-field (v .label .n) (v .label .p) (v .after - v .first) (v .loss) (h .loss) short
+
+  composite-fits : TrackInField (v .composite)
+  composite-fits = track-in-field (v .label .n) (v .label .p) (v .after - v .first) (v .composite) (h .composite) short
+
+  written-label : labelIn (take 24 (drop 8 (summaryBytes v))) ≡ v .label
+  unfolding summaryBytes
+  written-label =
+      ap labelIn (label-part (v .first) (v .after) (v .label) _)
+      ∙ label-read-write (v .label) [] (h .settings)
+
+  written-first : numberAt 4 (summaryBytes v) 0 ≡ v .first
+  unfolding summaryBytes
+  written-first = first-back (v .first) (v .after) (v .label) _ (omega (arith, h .ordered, h .within, intervals-fit))
+
+  written-after : numberAt 4 (summaryBytes v) 4 ≡ v .after
+  unfolding summaryBytes
+  written-after = after-back (v .first) (v .after) (v .label) _ (omega (arith, h .within, intervals-fit))
+
+  written-spare : getD (summaryBytes v) 15 0 ≡ 0
+  unfolding summaryBytes
+  written-spare = spare-back (v .first) (v .after) (v .label) _
+
+  written-values : summaryIn (summaryBytes v) ≡ v
+  unfolding summaryIn
+  written-values =
+      λ i.
+      record {
+        first = written-first i;
+        after = written-after i;
+        label = written-label i;
+        loss = loss-back v loss-fits i;
+        composite = composite-back v composite-fits i;
+      }
+
+  written-header : headerMeets (summaryBytes v) v ≡ true
+  unfolding headerMeets headerRules
+  written-header =
+      rw (le-leb (v .first) (v .after) (h .ordered), le-leb (v .after) intervals (h .within), h .settings, eq-eqb (getD (summaryBytes v) 15 0) 0 written-spare, loss-words v loss-fits, composite-words v composite-fits, spare-zero v)
+
+  pub tracks-meet : tracksMeet v ≡ true
+  unfolding tracksMeet trackRules
+  tracks-meet =
+      rw (track-meets (v .label .n) (v .label .p) (v .after - v .first) (v .loss) (h .loss) short, track-meets (v .label .n) (v .label .p) (v .after - v .first) (v .composite) (h .composite) short, eq-eqb (countIn (v .loss)) (countIn (v .composite)) (h .counts))
+
+  pub read-write : summaryOf (summaryBytes v) ≡ SummaryRead.Valid v
+  unfolding summaryOf summaryRules
+  read-write = rw (eq-eqb (length (summaryBytes v)) 1024 (length-summary v), written-values, written-header, tracks-meet)
