@@ -8,15 +8,18 @@ use mathlib.Core.List.{List, [], _∷_, _++_, append-assoc}
 use Prim.Native.Nat.{ℕ, zero, suc, _+_, _-_, _^_, _≤_, _<_}
 use native.Mathlib.Omega.{arith}
 use lib.ListN.{length, getD, take, drop, length-append}
+use lib.Seq.{drop-cons}
 use lib.Dec.{leb, eqb}
 use borrow.Author.Tests.{le-leb, eq-eqb, eqb-true}
 use Rattle.records.specs.Bytes.{number, numberAt, part, bytesOf, areZero, Bytes}
 use Rattle.records.specs.Limits.{intervals}
+use Rattle.records.specs.Rules.{allMet}
 use Rattle.records.specs.Settings.{labelIn, labelMeets, shapeBytes, thresholdBytes, labelBytes}
 use Rattle.records.specs.declared.settings.LabelSettings.{LabelSettings}
 use Rattle.records.proofs.Bounds.{intervals-fit}
-use Rattle.records.proofs.Numbers.{number-of-bytes, length-bytes}
-use Rattle.records.proofs.RoundTrip.{length-label, label-read-write}
+use Rattle.records.proofs.Numbers.{number-of-bytes, length-bytes, length-part, part-is-bytes, part-append, part-whole}
+use Rattle.records.proofs.Rules.{rule-met}
+use Rattle.records.proofs.RoundTrip.{part-bytes, zero-bytes, length-label, label-read-write, label-write-read}
 use Rattle.rules.specs.Meets.{trackMeets}
 use Rattle.rules.proofs.Meeting.{track-meets}
 use Rattle.tracks.specs.Tracks.{countIn}
@@ -25,8 +28,9 @@ use Rattle.layout.specs.Bytes.{trackBytes}
 use Rattle.layout.specs.Reading.{trackIn, wordsMeet}
 use Rattle.layout.proofs.RoundTrip.{TrackInField, track-read-write, track-words}
 use Rattle.layout.proofs.Shifting.{number-at, zeros-at, track-at, words-at}
+use Rattle.layout.proofs.WriteRead.{track-write-read}
 use Rattle.layout.proofs.Sizes.{size-track}
-use Rattle.summaries.specs.Stored.{summaryIn, headerRules, headerMeets, trackRules, tracksMeet, summaryRules, summaryOf, summaryBytes}
+use Rattle.summaries.specs.Stored.{summaryIn, headerRules, headerMeets, trackRules, tracksMeet, summaryRules, validIf, summaryOf, summaryBytes}
 use Rattle.summaries.specs.declared.stored.Summary.{Summary}
 use Rattle.summaries.specs.declared.stored.SummaryRead.{SummaryRead}
 use Rattle.summaries.proofs.InField.{track-in-field}
@@ -165,3 +169,47 @@ module _ (v : Summary) (h : SummaryValid v) where
   pub read-write : summaryOf (summaryBytes v) ≡ SummaryRead.Valid v
   unfolding summaryOf summaryRules
   read-write = rw (eq-eqb (length (summaryBytes v)) 1024 (length-summary v), written-values, written-header, tracks-meet)
+
+-- the bytes of a valid summary, piece by piece
+
+taken-part : (s : List ℕ) (w i : ℕ) → i + w ≤ length s → take w (drop i s) ≡ part w s i
+unfolding part
+taken-part s zero i h = refl
+taken-part s (suc w) i h = rw (drop-cons s i 0 (omega arith)) (ap (λ (l : List ℕ). getD s i 0 ∷ l) (taken-part s w (suc i) (omega arith)))
+
+-- what is read is what stands in the bytes, and they meet every rule
+
+valid-if : (t : Bool) (w v : Summary) → validIf t w ≡ SummaryRead.Valid v → (t ≡ true) × (w ≡ v)
+valid-if true w v e = (refl, (cc))
+valid-if false w v e = let z : _≡_ {A = ℕ} 0 1 = cc in absurd (omega arith)
+
+in-pieces :
+    (s : List ℕ) →
+    part 1024 s 0 ≡ part 4 s 0 ++ (part 4 s 4 ++ (part 24 s 8 ++ (part 216 s 32 ++ (part 216 s 248 ++ part 560 s 464))))
+in-pieces s = part-append 4 1020 s 0 ∙ rw (part-append 4 1016 s 4, part-append 24 992 s 8, part-append 216 776 s 32, part-append 216 560 s 248)
+
+module _ (s : List ℕ) (h : Bytes s) where
+  spare-of-part : getD (part 24 s 8) 7 0 ≡ getD s 15 0
+  unfolding part
+  spare-of-part = refl
+
+  label-back : length s ≡ 1024 → getD s 15 0 ≡ 0 → labelBytes (labelIn (take 24 (drop 8 s))) ≡ part 24 s 8
+  label-back whole spare =
+      ap (λ l. labelBytes (labelIn l)) (taken-part s 24 8 (omega arith))
+      ∙ label-write-read (part 24 s 8) (part-is-bytes 24 s 8 h) (spare-of-part ∙ spare)
+      ∙ part-whole (part 24 s 8) 24 (length-part 24 s 8)
+
+  bytes-back :
+      length s ≡ 1024 → getD s 15 0 ≡ 0 → wordsMeet s 32 ≡ true → wordsMeet s 248 ≡ true → areZero 560 s 464 ≡ true → summaryBytes (summaryIn s) ≡ s
+  unfolding summaryBytes summaryIn
+  bytes-back whole spare loss composite zeros =
+      rw (part-bytes 4 s 0 h, part-bytes 4 s 4 h, label-back whole spare, track-write-read s h 32 loss, track-write-read s h 248 composite, zero-bytes 560 s 464 zeros)
+      (sym (in-pieces s) ∙ part-whole s 1024 whole)
+
+pub write-read : (s : List ℕ) (v : Summary) → Bytes s → summaryOf s ≡ SummaryRead.Valid v → summaryBytes v ≡ s
+unfolding summaryOf summaryRules headerMeets headerRules
+write-read s v h e =
+    let r = valid-if (allMet (summaryRules s)) (summaryIn s) v e in
+    let whole : length s ≡ 1024 = eqb-true (length s) 1024 (rule-met (summaryRules s) 0 (r .0)) in
+    let rules : (k : ℕ) → getD (headerRules s (summaryIn s)) k true ≡ true = λ k. rule-met (headerRules s (summaryIn s)) k (rule-met (summaryRules s) 1 (r .0)) in
+    ap summaryBytes (sym (r .1)) ∙ bytes-back s h whole (eqb-true (getD s 15 0) 0 (rules 3)) (rules 4) (rules 5) (rules 6)
