@@ -206,10 +206,13 @@ module _ (s : List ℕ) (h : Bytes s) where
       rw (part-bytes 4 s 0 h, part-bytes 4 s 4 h, label-back whole spare, track-write-read s h 32 loss, track-write-read s h 248 composite, zero-bytes 560 s 464 zeros)
       (sym (in-pieces s) ∙ part-whole s 1024 whole)
 
+pub read-whole : (s : List ℕ) (v : Summary) → summaryOf s ≡ SummaryRead.Valid v → length s ≡ 1024
+unfolding summaryOf summaryRules
+read-whole s v e = eqb-true (length s) 1024 (rule-met (summaryRules s) 0 (valid-if (allMet (summaryRules s)) (summaryIn s) v e .0))
+
 pub write-read : (s : List ℕ) (v : Summary) → Bytes s → summaryOf s ≡ SummaryRead.Valid v → summaryBytes v ≡ s
 unfolding summaryOf summaryRules headerMeets headerRules
 write-read s v h e =
     let r = valid-if (allMet (summaryRules s)) (summaryIn s) v e in
-    let whole : length s ≡ 1024 = eqb-true (length s) 1024 (rule-met (summaryRules s) 0 (r .0)) in
     let rules : (k : ℕ) → getD (headerRules s (summaryIn s)) k true ≡ true = λ k. rule-met (headerRules s (summaryIn s)) k (rule-met (summaryRules s) 1 (r .0)) in
-    ap summaryBytes (sym (r .1)) ∙ bytes-back s h whole (eqb-true (getD s 15 0) 0 (rules 3)) (rules 4) (rules 5) (rules 6)
+    ap summaryBytes (sym (r .1)) ∙ bytes-back s h (read-whole s v e) (eqb-true (getD s 15 0) 0 (rules 3)) (rules 4) (rules 5) (rules 6)
