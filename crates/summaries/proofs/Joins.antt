@@ -1,7 +1,7 @@
 -- The join of two adjoining summaries is a valid summary, so what `join` writes reads back, and is joined again; two byte lists that are valid,
 -- adjoining and of equal settings are never refused where there is room; and the order in which three are joined does not tell.
 -- Assumes nothing.
-use mathlib.Core.Path.{_≡_, refl, ap, sym, _∙_, subst}
+use mathlib.Core.Path.{_≡_, ap, sym, _∙_, subst}
 use mathlib.Core.Bool.{true}
 use mathlib.Core.List.{List}
 use Prim.Native.Nat.{ℕ, _+_, _-_}
@@ -11,6 +11,7 @@ use borrow.Author.Tests.{eq-eqb}
 use Rattle.records.specs.Bytes.{placed}
 use Rattle.records.specs.Room.{hasRoom}
 use Rattle.records.specs.Settings.{sameLabel}
+use Rattle.records.specs.declared.refusal.Fault.{Fault}
 use Rattle.records.proofs.SettingsRecord.{same-label-self}
 use Rattle.tracks.specs.Tracks.{join, countIn}
 use Rattle.tracks.specs.Valid.{TrackValid}
@@ -18,7 +19,7 @@ use Rattle.tracks.specs.declared.Track.{Track}
 use Rattle.tracks.proofs.Joining as tracks
 use Rattle.tracks.proofs.Keeping as keeping
 use Rattle.tracks.proofs.Serving.{count-join}
-use Rattle.summaries.specs.Joining.{joinedOf, Adjoining, good, judged, answerOf, leftOf, Outcome}
+use Rattle.summaries.specs.Joining.{joinedOf, Adjoining, good, unless, judged, answerOf, leftOf, Outcome}
 use Rattle.summaries.specs.Stored.{summaryOf, summaryBytes}
 use Rattle.summaries.specs.declared.joining.Joined.{Joined}
 use Rattle.summaries.specs.declared.stored.Summary.{Summary}
@@ -100,10 +101,13 @@ module _ (left right : List ℕ) (a b : Summary) (read-left : summaryOf left ≡
   same : sameLabel (a .label) (b .label) ≡ true
   same = subst (λ l. sameLabel (a .label) l ≡ true) settings (same-label-self (a .label))
 
-  pub never-refused : (len at : ℕ) → hasRoom len at 1024 ≡ true → judged left right len at ≡ good (joinedOf a b)
+  judged-good : (len at : ℕ) → judged left right len at ≡ unless (hasRoom len at 1024) Fault.Room 0 (good (joinedOf a b))
   unfolding judged
-  never-refused len at room =
-      rw (eq-eqb (length left) 1024 (read-whole left a read-left), eq-eqb (length right) 1024 (read-whole right b read-right), room, read-left, read-right, same, eq-eqb (a .after) (b .first) numbers)
+  judged-good len at =
+      rw (eq-eqb (length left) 1024 (read-whole left a read-left), eq-eqb (length right) 1024 (read-whole right b read-right), read-left, read-right, same, eq-eqb (a .after) (b .first) numbers)
+
+  pub never-refused : (len at : ℕ) → hasRoom len at 1024 ≡ true → judged left right len at ≡ good (joinedOf a b)
+  never-refused len at room = judged-good len at ∙ ap (λ t. unless t Fault.Room 0 (good (joinedOf a b))) room
 
   -- so the operation writes the join
   pub always-written :
@@ -132,3 +136,16 @@ join-assoc a b c e =
       loss = order (a .loss) (b .loss) (c .loss) i;
       composite = order (a .composite) (b .composite) (c .composite) i;
     }
+
+-- in bytes: the join of the first two with the third, and of the first with the join of the others, are judged alike
+pub any-order :
+    (a b c : Summary) (h : Adjoining a b) (k : Adjoining b c) (len at : ℕ) →
+    judged (summaryBytes (joinedOf a b)) (k .right-bytes) len at ≡ judged (h .left-bytes) (summaryBytes (joinedOf b c)) len at
+unfolding join-adjoins-right join-adjoins-left
+any-order a b c h k len at =
+    by-values (joinedOf a b) c (join-adjoins-right a b c h k)
+    ∙ ap (λ v. unless (hasRoom len at 1024) Fault.Room 0 (good v)) (join-assoc a b c (h .settings))
+    ∙ sym (by-values a (joinedOf b c) (join-adjoins-left a b c h k))
+  where
+    by-values : (x y : Summary) (j : Adjoining x y) → judged (j .left-bytes) (j .right-bytes) len at ≡ unless (hasRoom len at 1024) Fault.Room 0 (good (joinedOf x y))
+    by-values x y j = judged-good (j .left-bytes) (j .right-bytes) x y (j .left) (j .right) (j .settings) (j .numbers) len at

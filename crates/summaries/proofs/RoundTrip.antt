@@ -9,25 +9,22 @@ use Prim.Native.Nat.{ℕ, zero, suc, _+_, _-_, _^_, _≤_, _<_}
 use native.Mathlib.Omega.{arith}
 use lib.ListN.{length, getD, take, drop, length-append}
 use lib.Seq.{drop-cons}
-use lib.Dec.{leb, eqb}
 use borrow.Author.Tests.{le-leb, eq-eqb, eqb-true}
-use Rattle.records.specs.Bytes.{number, numberAt, part, bytesOf, areZero, Bytes}
+use Rattle.records.specs.Bytes.{numberAt, part, bytesOf, areZero, Bytes}
 use Rattle.records.specs.Limits.{intervals}
 use Rattle.records.specs.Rules.{allMet}
-use Rattle.records.specs.Settings.{labelIn, labelMeets, shapeBytes, thresholdBytes, labelBytes}
+use Rattle.records.specs.Settings.{labelIn, shapeBytes, thresholdBytes, labelBytes}
 use Rattle.records.specs.declared.settings.LabelSettings.{LabelSettings}
 use Rattle.records.proofs.Bounds.{intervals-fit}
 use Rattle.records.proofs.Numbers.{number-of-bytes, length-bytes, length-part, part-is-bytes, part-append, part-whole}
 use Rattle.records.proofs.Rules.{rule-met}
 use Rattle.records.proofs.RoundTrip.{part-bytes, zero-bytes, length-label, label-read-write, label-write-read}
-use Rattle.rules.specs.Meets.{trackMeets}
 use Rattle.rules.proofs.Meeting.{track-meets}
 use Rattle.tracks.specs.Tracks.{countIn}
-use Rattle.tracks.specs.declared.Track.{Track}
 use Rattle.layout.specs.Bytes.{trackBytes}
 use Rattle.layout.specs.Reading.{trackIn, wordsMeet}
 use Rattle.layout.proofs.RoundTrip.{TrackInField, track-read-write, track-words}
-use Rattle.layout.proofs.Shifting.{number-at, zeros-at, track-at, words-at}
+use Rattle.layout.proofs.Shifting.{zeros-at, track-at, words-at}
 use Rattle.layout.proofs.WriteRead.{track-write-read}
 use Rattle.layout.proofs.Sizes.{size-track}
 use Rattle.summaries.specs.Stored.{summaryIn, headerRules, headerMeets, trackRules, tracksMeet, summaryRules, validIf, summaryOf, summaryBytes}
