@@ -1,5 +1,8 @@
 -- The laws of this crate that others cite.
+pub mod InField
+pub mod Joins
 pub mod Judging
 pub mod Placing
+pub mod RoundTrip
 pub mod Validity
 pub mod Zeroing
