@@ -1,4 +1,6 @@
 -- The laws of this crate that others cite.
+pub mod Answering
+pub mod Gathering
 pub mod Judging
 pub mod Placing
 pub mod Validity
