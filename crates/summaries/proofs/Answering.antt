@@ -3,11 +3,9 @@
 use mathlib.Core.Path.{_≡_, refl, ap, sym, _∙_}
 use mathlib.Core.Bool.{true, false}
 use mathlib.Core.List.{List}
-use Prim.Native.Nat.{ℕ, _+_, _-_, _≤_, _<_}
-use native.Mathlib.Omega.{arith}
-use lib.ListN.{length, take, drop, length-take, length-drop}
+use Prim.Native.Nat.{ℕ, _≤_, _<_}
+use lib.ListN.{length}
 use borrow.Author.Tests.{lt-ltb, le-ltb}
-use borrow.Rule.Slice.PartMut.{putMid}
 use Rattle.records.specs.Bytes.{placed}
 use Rattle.records.specs.Limits.{intervals}
 use Rattle.records.specs.Many.{countOf}
@@ -19,19 +17,11 @@ use Rattle.records.specs.declared.refusal.Fault.{Fault}
 use Rattle.records.specs.declared.refusal.Refusal.{Refusal}
 use Rattle.records.specs.declared.settings.Settings.{Settings}
 use Rattle.records.specs.declared.settings.SettingsRead.{SettingsRead}
-use Rattle.records.proofs.Window.{sets-whole, part-placed}
 use Rattle.summaries.specs.Making.{gathered, made, answerOf, leftOf, Outcome}
 use Rattle.summaries.specs.Stored.{summaryBytes}
 use Rattle.summaries.specs.declared.making.Gathered.{Gathered}
 use Rattle.summaries.specs.declared.making.Made.{Made}
 use Rattle.summaries.specs.declared.stored.Summary.{Summary}
-
--- a part that has become other bytes, as many, and the buffer that it was lent from
-pub part-filled : (out bs : List ℕ) (at n : ℕ) → length bs ≡ n → at + n ≤ length out → putMid at (at + n - at) out bs ≡ placed out at bs
-part-filled out bs at n e h =
-    let k : at + n - at ≡ length bs = omega arith in
-    let l : length (take (at + n - at) (drop at out)) ≡ length bs = simp (length-take, length-drop) (omega arith) in
-    ap (putMid at (at + n - at) out) (sym (sets-whole (take (at + n - at) (drop at out)) bs l)) ∙ part-placed out bs at n e h
 
 module _ (settings : List ℕ) (first : ℕ) (s out : List ℕ) (at : ℕ) where
   owed :

@@ -1,19 +1,18 @@
 -- `summaries::making::summary` meets its contract: one law of `Answering` for each way out, and the part that has room is filled whole.
 -- Assumes nothing.
-use mathlib.Core.Path.{_≡_, ap, sym, _∙_}
+use mathlib.Core.Path.{_≡_, sym, _∙_}
 use mathlib.Core.Bool.{true}
 use Prim.Native.Nat.{_+_, _≤_}
 use native.Mathlib.Omega.{arith}
 use lib.ListN.{length}
 use borrow.Author.Tests.{not-true, not-false}
-use borrow.Rule.Slice.PartMut.{putMid}
 use Rattle.records.specs.Limits.{intervals}
 use Rattle.records.specs.Room.{hasRoom}
 use Rattle.records.proofs.Window.{room-within}
 use Rattle.labels.proofs.Placing.{read-label}
 use Rattle.summaries.specs.Stored.{summaryBytes}
-use Rattle.summaries.proofs.Placing.{size-summary}
-use Rattle.summaries.proofs.Answering.{part-filled, no-settings, no-length, no-room, no-number, not-sound, written}
+use Rattle.summaries.proofs.Placing.{part-filled, size-summary}
+use Rattle.summaries.proofs.Answering.{no-settings, no-length, no-room, no-number, not-sound, written}
 use borrow.Author.Needs.{needs}
 use Rattle.summaries.proofs.making.summary.Statement.{statement}
 use Rattle.summaries.proofs.making.summary.Tie as tie
@@ -111,7 +110,7 @@ unfolding intervals
 returns-5 c = let a = c .before .before .before .before .before .before .before .before .before .before .before .before .before .before .before .before .before .before .before .before .before .before .args in
     let x = c .before .before .before .before .before .made .given .0 .0 in
     written (a .settings .now) (a .first) (a .intervals .now) (a .out .now) (a .at) (c .before .before .before .before .before .before .before .before .before .before .before .before .before .before .before .before .v .given .0 .0) (sym (c .before .before .before .before .before .before .before .before .before .before .before .before .before .before .before .before .before .before .read .ensures) ∙ c .before .before .before .before .before .before .before .before .before .before .before .before .before .before .before .before .v .given .1) (c .before .before .before .before .before .before .before .before .before .before .before .before .enum-told2 .given .0 .0) (sym (c .before .before .before .before .before .before .before .before .before .before .before .before .before .before .count .ensures) ∙ c .before .before .before .before .before .before .before .before .before .before .before .before .enum-told2 .given .1) (sym (c .before .before .before .before .before .before .before .before .before .before .before .has-room .ensures) ∙ not-false _ (c .before .before .before .before .before .before .before .before .before .before .if1 .left)) (c .before .before .before .before .before .before .before .before .before .if2 .left) x (sym (c .before .before .before .before .before .before .before .gather .ensures) ∙ c .before .before .before .before .before .made .given .1)
-    (rw (c .before .before .put .ensures) (part-filled (a .out .now) (summaryBytes x) (a .at) 1024 (size-summary x) (within (c .before .before .before .before))))
+    (rw (c .before .before .put .ensures) (part-filled (a .out .now) (summaryBytes x) (a .at) 1024 (size-summary x)))
 
 returns-6 : tie.Need-returns-6
 unfolding intervals
