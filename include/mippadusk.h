@@ -32,6 +32,24 @@ extern "C" {
 #define MIP_NUMBER(word) ((uint32_t)((word) >> 32))
 #define MIP_PLACE(word) ((uint32_t)(word))
 
+/* From the frames of one interval to its record.
+ *
+ * settings     a settings record, 64 bytes; the length of an interval, DL and Jt are taken from it
+ * frames       frame records of 16 bytes each, at most 4,096, in strictly increasing time; none is fine
+ * number       the interval's number, below 3,000,000: a frame belongs to it when number * length <= time < (number + 1) * length
+ * maintenance  0 or 1
+ * out, at      the interval record is written into the 48 bytes of `out` from byte `at` on; the bytes before and behind stay as
+ *              they are
+ *
+ * Refusals, in this order: MIP_SETTINGS; MIP_LENGTH where `frames` is not a whole number of records; MIP_ROOM where `out` has fewer
+ * than 48 bytes from `at` on; MIP_FULL over 4,096 frames; MIP_FIELD for the number or for maintenance; then frame by frame, at its
+ * place, MIP_FIELD where it breaks its own rules, MIP_OUTSIDE where its time is not in the interval, MIP_ORDER where its time is
+ * not later than that of the frame before. */
+uint64_t mip_interval(const uint8_t *settings, size_t settings_len,
+                      const uint8_t *frames, size_t frames_len,
+                      uint64_t number, uint64_t maintenance,
+                      uint8_t *out, size_t out_len, size_t at);
+
 /* Percentile delay and range of a list of delays, in ns, in any order. The list is read and stays as it is.
  *
  * settings   a settings record, 64 bytes; Pr, most delay and most range are taken from it

@@ -1,3 +1,4 @@
 -- The definitions that the contracts cite.
 pub mod DelayList
+pub mod FrameList
 pub mod Word
