@@ -1,6 +1,7 @@
 //! The functions of include/mippadusk.h that the archive has, and the memory that is lent to them.
 use crate::random::Random;
 use second::refusals::Answer;
+use std::sync::atomic::{AtomicU64, Ordering};
 
 macro_rules! exported {
     ($($(#[$gate:meta])* fn $name:ident($($argument:ident: $type:ty),*);)*) => {
@@ -167,6 +168,9 @@ pub fn word<T>(answer: &Answer<T>) -> u64 {
     }
 }
 
+/// How many calls were answered (0) and refused with each number.
+pub static TOLD: [AtomicU64; 10] = [const { AtomicU64::new(0) }; 10];
+
 /// Compares a call's word with the one expected.
 pub fn same_word<T>(got: u64, answer: &Answer<T>) -> Result<(), String> {
     let told = |w: u64| {
@@ -177,6 +181,7 @@ pub fn same_word<T>(got: u64, answer: &Answer<T>) -> Result<(), String> {
         }
     };
     let expected = word(answer);
+    TOLD[(expected >> 32) as usize].fetch_add(1, Ordering::Relaxed);
     if got == expected {
         Ok(())
     } else {

@@ -17,6 +17,7 @@ mod labels;
 mod summaries;
 
 use random::Random;
+use std::sync::atomic::Ordering;
 use std::time::{Duration, Instant};
 
 /// Tries one case: an error says what differs, and shows the case.
@@ -97,10 +98,19 @@ fn main() {
             run(operation, seed, index);
             index += 1;
         }
+        let told = library::TOLD
+            .each_ref()
+            .map(|count| count.swap(0, Ordering::Relaxed));
+        let refused: Vec<String> = (1..10)
+            .filter(|k| told[*k] > 0)
+            .map(|k| format!("{k}: {}", told[k]))
+            .collect();
         println!(
-            "{:12} {index:8} cases the same in {:5.1} s",
+            "{:12} {index:8} cases the same in {:5.1} s; calls answered {}, refused {}",
             operation.name,
-            start.elapsed().as_secs_f64()
+            start.elapsed().as_secs_f64(),
+            told[0],
+            refused.join(", ")
         );
     }
 }

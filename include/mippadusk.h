@@ -50,6 +50,20 @@ uint64_t mip_interval(const uint8_t *settings, size_t settings_len,
                       uint64_t number, uint64_t maintenance,
                       uint8_t *out, size_t out_len, size_t at);
 
+/* The labels of a stretch of intervals from 0.
+ *
+ * settings   a settings record, 64 bytes; its label settings are taken
+ * intervals  interval records of 48 bytes each, numbered 0, 1, 2 and so on; none is fine
+ * out, at    two bytes for each interval are written into `out` from byte `at` on, its loss label and then its composite label:
+ *            0 unavailable, 1 available, 2 undecided; the bytes before and behind stay as they are
+ *
+ * Refusals, in this order: MIP_SETTINGS; MIP_LENGTH where `intervals` is not a whole number of records; MIP_ROOM where `out` has too
+ * few bytes from `at` on, or `at` lies past its end; then record by record, at its place, MIP_FIELD where it breaks its own rules,
+ * MIP_ORDER where its number is not its place. Nothing is written before all records are known to be good. */
+uint64_t mip_labels(const uint8_t *settings, size_t settings_len,
+                    const uint8_t *intervals, size_t intervals_len,
+                    uint8_t *out, size_t out_len, size_t at);
+
 /* Percentile delay and range of a list of delays, in ns, in any order. The list is read and stays as it is.
  *
  * settings   a settings record, 64 bytes; Pr, most delay and most range are taken from it
