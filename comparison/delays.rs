@@ -33,7 +33,7 @@ fn list(r: &mut Random, index: u64) -> Vec<u32> {
         }
         _ => (),
     }
-    if count > 0 && index != 13 && r.one_in(4) {
+    if count > 0 && !large(index) && r.one_in(4) {
         for _ in 0..1 + r.below(3) {
             let any = r.index(count);
             let place = r.pick(&[0, count - 1, any]);
@@ -44,7 +44,11 @@ fn list(r: &mut Random, index: u64) -> Vec<u32> {
 }
 
 pub fn case(r: &mut Random, index: u64) -> Result<(), String> {
-    let mut s = settings(r, 8);
+    let mut s = if large(index) {
+        valid_settings(r)
+    } else {
+        settings(r, 8)
+    };
     let list = list(r, index);
     if s.len() >= 60 && r.one_in(2) {
         // objectives at the edge of what is found
@@ -66,7 +70,7 @@ pub fn case(r: &mut Random, index: u64) -> Result<(), String> {
             );
         }
     }
-    let room = r.pick(&[0, 1, 3, 4, 4, 4, 4, 5, 9]);
+    let room = if large(index) { 4 } else { words_of_room(r, 4) };
     let mut answers = lent_words(r, room);
     let (s_was, list_was) = (s.clone(), list.clone());
     let got = delays(&s, &list, answers.part());

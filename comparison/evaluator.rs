@@ -9,7 +9,7 @@ use second::records::*;
 
 pub fn start_case(r: &mut Random, _: u64) -> Result<(), String> {
     let s = settings(r, 3);
-    let room = r.pick(&[0, 1, 12, 13, 13, 13, 14, 20]);
+    let room = words_of_room(r, 13);
     let mut words = lent_words(r, room);
     let got = start(&s, words.part());
     let expected = second::evaluator::start(&s, room).map(|e| e.words().to_vec());
@@ -113,7 +113,7 @@ pub fn step_case(r: &mut Random, index: u64) -> Result<(), String> {
         1 => words.push(r.next()),
         _ => (),
     }
-    let room = r.pick(&[0, 3, 4, 4, 4, 4, 4, 4, 5, 9]);
+    let room = words_of_room(r, 4);
     step_both(r, &words, &record, room).map(|_| ())
 }
 

@@ -467,3 +467,28 @@ pub fn hex(bytes: &[u8]) -> String {
     let more = if bytes.len() > 6_144 { ".." } else { "" };
     format!("{} bytes {shown}{more}", bytes.len())
 }
+
+/// The cases whose number stands for one large input: nothing in them is damaged otherwise.
+pub fn large(index: u64) -> bool {
+    (10..16).contains(&index)
+}
+
+/// How many faults to put into a case: mostly none or one, at times several.
+pub fn faults(r: &mut Random, index: u64) -> u64 {
+    if large(index) {
+        0
+    } else {
+        r.pick(&[0, 0, 0, 1, 1, 2, 4])
+    }
+}
+
+/// A number of words for an output of `size` words, at times too small.
+pub fn words_of_room(r: &mut Random, size: usize) -> usize {
+    match r.below(20) {
+        0 => 0,
+        1 => size - 1,
+        2 => size + 1,
+        3 => size + 5,
+        _ => size,
+    }
+}

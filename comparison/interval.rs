@@ -24,8 +24,7 @@ pub fn case(r: &mut Random, index: u64) -> Result<(), String> {
     let mut s = valid;
     let mut asked = number;
     let mut maintenance = r.below(2);
-    // most cases have no fault or one, some have several
-    for _ in 0..r.pick(&[0, 0, 1, 1, 2, 4]) {
+    for _ in 0..faults(r, index) {
         match r.below(10) {
             0 => {
                 let damage = r.pick(&settings_damages());
@@ -49,7 +48,7 @@ pub fn case(r: &mut Random, index: u64) -> Result<(), String> {
             _ => damage_frames(r, &label, number, &mut frames),
         }
     }
-    let (length, at) = room(r, 48);
+    let (length, at) = if large(index) { (48, 0) } else { room(r, 48) };
     let mut out = lent_bytes(r, length);
     let (s_was, frames_was) = (s.clone(), frames.clone());
     let got = interval(&s, &frames, asked, maintenance, out.part(), at);

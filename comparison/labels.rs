@@ -8,18 +8,25 @@ pub fn case(r: &mut Random, index: u64) -> Result<(), String> {
     let mut s = valid_settings(r);
     let label = read_settings(&s).unwrap().label;
     let count = match index {
-        // the whole of what can be numbered, and one record more
-        10 => INTERVALS as usize,
-        11 => 200_000,
+        // all that can be numbered, and one record more
+        10 | 11 => INTERVALS as usize,
+        12 => 200_000,
         _ if r.one_in(5_000) => r.index(300_000),
         _ if r.one_in(100) => r.index(5_000),
         _ => some_count(r, 400),
     };
     let mut records = written(&valid_intervals(r, &label, 0, count));
-    if index == 10 {
-        records.extend_from_within(..48);
+    if index == 11 {
+        let more = valid_interval(r, &label);
+        records.extend(
+            Interval {
+                number: INTERVALS,
+                ..more
+            }
+            .write(),
+        );
     }
-    for _ in 0..r.pick(&[0, 0, 0, 1, 1, 2, 4]) {
+    for _ in 0..faults(r, index) {
         if r.one_in(10) && s.len() == 64 {
             let damage = r.pick(&settings_damages());
             damage(r, &mut s);
@@ -27,7 +34,12 @@ pub fn case(r: &mut Random, index: u64) -> Result<(), String> {
             damage_intervals(r, &mut records);
         }
     }
-    let (length, at) = room(r, records.len() / 48 * 2);
+    let size = records.len() / 48 * 2;
+    let (length, at) = if large(index) {
+        (size, 0)
+    } else {
+        room(r, size)
+    };
     let mut out = lent_bytes(r, length);
     let got = labels(&s, &records, out.part(), at);
     let expected = second::labels::labels(&s, &records, length, at);

@@ -276,7 +276,7 @@ pub fn lent_these(r: &mut Random, words: &[u64]) -> Lent<u64> {
 pub fn room(r: &mut Random, size: usize) -> (usize, usize) {
     let at = r.index(60);
     let length = at + size + r.index(60);
-    match r.below(16) {
+    match r.below(40) {
         0 => (at + size, at),
         1 if size > 0 => (at + size - 1, at),
         2 => (length, length),

@@ -78,8 +78,8 @@ pub fn summary_case(r: &mut Random, index: u64) -> Result<(), String> {
     let mut s = valid_settings(r);
     let label = read_settings(&s).unwrap().label;
     let count = match index {
-        10 => INTERVALS as usize,
-        11 => 200_000,
+        10 | 11 => INTERVALS as usize,
+        12 => 200_000,
         _ if r.one_in(3_000) => r.index(300_000),
         _ if r.one_in(100) => r.index(5_000),
         _ => some_count(r, 400),
@@ -87,7 +87,7 @@ pub fn summary_case(r: &mut Random, index: u64) -> Result<(), String> {
     let top = INTERVALS - count as u64;
     let mut first = if r.one_in(3) { 0 } else { r.edgy(0, top) };
     let mut records = written(&valid_intervals(r, &label, first, count));
-    if index == 10 || (first == top && r.one_in(2)) {
+    if index == 11 || (!large(index) && first == top && r.one_in(2)) {
         // one more than can be numbered
         let more = valid_interval(r, &label);
         records.extend(
@@ -98,7 +98,7 @@ pub fn summary_case(r: &mut Random, index: u64) -> Result<(), String> {
             .write(),
         );
     }
-    for _ in 0..r.pick(&[0, 0, 0, 1, 1, 2, 4]) {
+    for _ in 0..faults(r, index) {
         match r.below(10) {
             0 if s.len() == 64 => {
                 let damage = r.pick(&settings_damages());
@@ -117,7 +117,11 @@ pub fn summary_case(r: &mut Random, index: u64) -> Result<(), String> {
             _ => damage_intervals(r, &mut records),
         }
     }
-    let (length, at) = room(r, SIZE);
+    let (length, at) = if large(index) {
+        (SIZE, 0)
+    } else {
+        room(r, SIZE)
+    };
     let mut out = lent_bytes(r, length);
     let got = summary(&s, first, &records, out.part(), at);
     let expected = second::summaries::summary(&s, first, &records, length, at);
@@ -491,15 +495,19 @@ pub fn report_case(r: &mut Random, index: u64) -> Result<(), String> {
         _ => some_count(r, 300),
     };
     let mut all = three(r, &s, count)?;
-    for _ in 0..r.pick(&[0, 0, 0, 0, 1, 2, 3]) {
+    for _ in 0..faults(r, index) {
         spoil(r, &s, &mut all)?;
     }
     let mut bytes = bytes_of(&all);
-    if r.one_in(20) {
+    if !large(index) && r.one_in(20) {
         let length = r.pick(&[0, SIZE, 3 * SIZE - 1, 3 * SIZE + 1, 2 * SIZE, 4 * SIZE]);
         bytes.resize(length, 0);
     }
-    let room = r.pick(&[0, 14, 15, 15, 15, 15, 15, 15, 16, 20]);
+    let room = if large(index) {
+        15
+    } else {
+        words_of_room(r, 15)
+    };
     let mut figures = lent_words(r, room);
     let got = report(&bytes, figures.part());
     let expected =
@@ -569,7 +577,7 @@ pub fn verdicts_case(r: &mut Random, index: u64) -> Result<(), String> {
         let count = some_count(r, 200);
         all.extend(three(r, &s, count)?);
     }
-    for _ in 0..r.pick(&[0, 0, 0, 0, 1, 2, 3]) {
+    for _ in 0..faults(r, index) {
         spoil(r, &s, &mut all)?;
     }
     let models = models_of(&all);
@@ -579,7 +587,7 @@ pub fn verdicts_case(r: &mut Random, index: u64) -> Result<(), String> {
             edge_objectives(r, &mut s, &f);
         }
     }
-    if r.one_in(12) {
+    if !large(index) && r.one_in(12) {
         s = if r.one_in(2) {
             other_label(r, &s)
         } else {
@@ -587,7 +595,7 @@ pub fn verdicts_case(r: &mut Random, index: u64) -> Result<(), String> {
         };
     }
     let mut bytes = bytes_of(&all);
-    if r.one_in(20) {
+    if !large(index) && r.one_in(20) {
         let length = r.pick(&[
             0,
             SIZE,
@@ -597,7 +605,7 @@ pub fn verdicts_case(r: &mut Random, index: u64) -> Result<(), String> {
         ]);
         bytes.resize(length, 0);
     }
-    if r.one_in(20) {
+    if !large(index) && r.one_in(20) {
         pairs = r.pick(&[
             0,
             pairs + 1,
@@ -610,7 +618,7 @@ pub fn verdicts_case(r: &mut Random, index: u64) -> Result<(), String> {
             u64::MAX / 3_072 + 1,
         ]);
     }
-    let room = r.pick(&[0, 5, 6, 6, 6, 6, 6, 6, 7, 9]);
+    let room = if large(index) { 6 } else { words_of_room(r, 6) };
     let mut six = lent_words(r, room);
     let got = verdicts(&s, pairs, &bytes, six.part());
     let expected = second::verdicts::verdicts(&s, pairs, bytes.len(), &models, room)

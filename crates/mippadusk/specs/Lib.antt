@@ -2,4 +2,5 @@
 pub mod DelayList
 pub mod FrameList
 pub mod LabelList
+pub mod Running
 pub mod Word

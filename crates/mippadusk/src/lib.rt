@@ -2,4 +2,5 @@
 mod delay_list;
 mod frame_list;
 mod label_list;
+mod running;
 mod word;
