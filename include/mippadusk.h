@@ -32,6 +32,71 @@ extern "C" {
 #define MIP_NUMBER(word) ((uint32_t)((word) >> 32))
 #define MIP_PLACE(word) ((uint32_t)(word))
 
+/* From the frames of one interval to its record.
+ *
+ * settings     a settings record, 64 bytes; the length of an interval, DL and Jt are taken from it
+ * frames       frame records of 16 bytes each, at most 4,096, in strictly increasing time; none is fine
+ * number       the interval's number, below 3,000,000: a frame belongs to it when number * length <= time < (number + 1) * length
+ * maintenance  0 or 1
+ * out, at      the interval record is written into the 48 bytes of `out` from byte `at` on; the bytes before and behind stay as
+ *              they are
+ *
+ * Refusals, in this order: MIP_SETTINGS; MIP_LENGTH where `frames` is not a whole number of records; MIP_ROOM where `out` has fewer
+ * than 48 bytes from `at` on; MIP_FULL over 4,096 frames; MIP_FIELD for the number or for maintenance; then frame by frame, at its
+ * place, MIP_FIELD where it breaks its own rules, MIP_OUTSIDE where its time is not in the interval, MIP_ORDER where its time is
+ * not later than that of the frame before. */
+uint64_t mip_interval(const uint8_t *settings, size_t settings_len,
+                      const uint8_t *frames, size_t frames_len,
+                      uint64_t number, uint64_t maintenance,
+                      uint8_t *out, size_t out_len, size_t at);
+
+/* The labels of a stretch of intervals from 0.
+ *
+ * settings   a settings record, 64 bytes; its label settings are taken
+ * intervals  interval records of 48 bytes each, numbered 0, 1, 2 and so on; none is fine
+ * out, at    two bytes for each interval are written into `out` from byte `at` on, its loss label and then its composite label:
+ *            0 unavailable, 1 available, 2 undecided; the bytes before and behind stay as they are
+ *
+ * Refusals, in this order: MIP_SETTINGS; MIP_LENGTH where `intervals` is not a whole number of records; MIP_ROOM where `out` has too
+ * few bytes from `at` on, or `at` lies past its end; then record by record, at its place, MIP_FIELD where it breaks its own rules,
+ * MIP_ORDER where its number is not its place. Nothing is written before all records are known to be good. */
+uint64_t mip_labels(const uint8_t *settings, size_t settings_len,
+                    const uint8_t *intervals, size_t intervals_len,
+                    uint8_t *out, size_t out_len, size_t at);
+
+/* The running evaluator of a circuit is 13 words that the caller keeps and lends to each step:
+ *
+ *   0 to 7  the label settings: length of an interval in ms, n, p, weights, C, U, DL, Jt
+ *   8       the number of intervals fed
+ *   9, 10   loss track: the label settled last, 1 available or 0 unavailable, and how many are undecided
+ *   11, 12  composite track: the same
+ *
+ * mip_start writes an evaluator with nothing fed.
+ *
+ * settings   a settings record, 64 bytes; its label settings are taken
+ * evaluator  room for 13 words or more; words behind the 13th stay as they are
+ *
+ * Refusals, in this order: MIP_SETTINGS; MIP_ROOM where `evaluator` is shorter than 13 words. */
+uint64_t mip_start(const uint8_t *settings, size_t settings_len,
+                   uint64_t *evaluator, size_t evaluator_len);
+
+/* Feeds an evaluator the next interval: it is altered where it stands.
+ *
+ * evaluator  the words above; words behind the 13th stay as they are
+ * interval   an interval record, 48 bytes, whose number is the number fed so far
+ * settled    room for 4 words or more; words behind the fourth stay as they are:
+ *              0, 1  loss track: how many labels the step settled, and which: 0 unavailable, 1 available, 2 where it settled none
+ *              2, 3  composite track: the same
+ *            The labels settled are those of the intervals that were undecided first, and they all agree.
+ *
+ * Refusals, in this order, all at place 0: MIP_LENGTH where `interval` is not 48 bytes; MIP_LENGTH where `evaluator` is shorter than 13
+ * words; MIP_ROOM where `settled` is shorter than 4 words; MIP_FIELD where the evaluator has invalid settings, more than 3,000,000 fed,
+ * or a track that no sequence of so many intervals leaves; MIP_FIELD where the record breaks its own rules; MIP_ORDER where its
+ * number is not the number fed. */
+uint64_t mip_step(uint64_t *evaluator, size_t evaluator_len,
+                  const uint8_t *interval, size_t interval_len,
+                  uint64_t *settled, size_t settled_len);
+
 /* Percentile delay and range of a list of delays, in ns, in any order. The list is read and stays as it is.
  *
  * settings   a settings record, 64 bytes; Pr, most delay and most range are taken from it

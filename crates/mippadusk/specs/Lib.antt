@@ -1,3 +1,6 @@
 -- The definitions that the contracts cite.
 pub mod DelayList
+pub mod FrameList
+pub mod LabelList
+pub mod Running
 pub mod Word

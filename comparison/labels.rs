@@ -1,0 +1,55 @@
+//! `mip_labels`.
+use crate::inputs::*;
+use crate::library::*;
+use crate::random::Random;
+use second::records::*;
+
+pub fn case(r: &mut Random, index: u64) -> Result<(), String> {
+    let mut s = valid_settings(r);
+    let label = read_settings(&s).unwrap().label;
+    let count = match index {
+        // all that can be numbered, and one record more
+        10 | 11 => INTERVALS as usize,
+        12 => 200_000,
+        _ if r.one_in(5_000) => r.index(300_000),
+        _ if r.one_in(100) => r.index(5_000),
+        _ => some_count(r, 400),
+    };
+    let mut records = written(&valid_intervals(r, &label, 0, count));
+    if index == 11 {
+        let more = valid_interval(r, &label);
+        records.extend(
+            Interval {
+                number: INTERVALS,
+                ..more
+            }
+            .write(),
+        );
+    }
+    for _ in 0..faults(r, index) {
+        if r.one_in(10) && s.len() == 64 {
+            let damage = r.pick(&settings_damages());
+            damage(r, &mut s);
+        } else {
+            damage_intervals(r, &mut records);
+        }
+    }
+    let size = records.len() / 48 * 2;
+    let (length, at) = if large(index) {
+        (size, 0)
+    } else {
+        room(r, size)
+    };
+    let mut out = lent_bytes(r, length);
+    let got = labels(&s, &records, out.part(), at);
+    let expected = second::labels::labels(&s, &records, length, at);
+    same_word(got, &expected)
+        .and_then(|_| out.as_answered("out", at, &expected))
+        .map_err(|fault| {
+            format!(
+                "{fault}\nsettings {}\nintervals {}\nroom {length} at {at}",
+                hex(&s),
+                hex(&records)
+            )
+        })
+}

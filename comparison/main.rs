@@ -1,0 +1,116 @@
+//! The library against the second program, on many inputs: `./compare [SECONDS [SEED [OPERATION CASE]]]` builds and runs it.
+//! The time is split evenly among the operations that the archive has. A case is made from the seed, the operation's name and the
+//! case's number alone, so a case that fails can be run again by itself.
+mod inputs;
+mod library;
+mod random;
+
+#[cfg(mip_delays)]
+mod delays;
+#[cfg(mip_start)]
+mod evaluator;
+#[cfg(mip_interval)]
+mod interval;
+#[cfg(mip_labels)]
+mod labels;
+#[cfg(mip_summary)]
+mod summaries;
+
+use random::Random;
+use std::sync::atomic::Ordering;
+use std::time::{Duration, Instant};
+
+/// Tries one case: an error says what differs, and shows the case.
+type Try = fn(&mut Random, u64) -> Result<(), String>;
+
+struct Operation {
+    name: &'static str,
+    /// Cases below this number are run whatever time they take.
+    least: u64,
+    case: Try,
+}
+
+fn operations() -> Vec<Operation> {
+    let mut all: Vec<Operation> = Vec::new();
+    let mut add = |name, least, case| all.push(Operation { name, least, case });
+    #[cfg(mip_interval)]
+    add("mip_interval", 2_000, interval::case as Try);
+    #[cfg(mip_labels)]
+    add("mip_labels", 2_000, labels::case as Try);
+    #[cfg(mip_start)]
+    add("mip_start", 2_000, evaluator::start_case as Try);
+    #[cfg(mip_step)]
+    add("mip_step", 1_000, evaluator::step_case as Try);
+    #[cfg(mip_summary)]
+    add("mip_summary", 1_000, summaries::summary_case as Try);
+    #[cfg(mip_join)]
+    add("mip_join", 1_000, summaries::join_case as Try);
+    #[cfg(mip_report)]
+    add("mip_report", 1_000, summaries::report_case as Try);
+    #[cfg(mip_verdicts)]
+    add("mip_verdicts", 500, summaries::verdicts_case as Try);
+    #[cfg(mip_delays)]
+    add("mip_delays", 2_000, delays::case as Try);
+    all
+}
+
+/// Runs one case; a difference ends the program.
+fn run(operation: &Operation, seed: u64, index: u64) {
+    let mut r = Random::of_case(seed, operation.name, index);
+    let tried = std::panic::catch_unwind(move || (operation.case)(&mut r, index));
+    let fault = match tried {
+        Ok(Ok(())) => return,
+        Ok(Err(fault)) => fault,
+        Err(_) => "the second program panics".to_string(),
+    };
+    println!("{} DIFFERS in case {index} of seed {seed}", operation.name);
+    println!("{fault}");
+    println!("again with: ./compare 0 {seed} {} {index}", operation.name);
+    std::process::exit(1);
+}
+
+fn main() {
+    let arguments: Vec<String> = std::env::args().skip(1).collect();
+    let number = |k: usize, otherwise: u64| match arguments.get(k) {
+        Some(text) => text
+            .parse()
+            .unwrap_or_else(|_| panic!("not a number: {text}")),
+        None => otherwise,
+    };
+    let (seconds, seed) = (number(0, 120), number(1, 1));
+    let operations = operations();
+    if let Some(name) = arguments.get(2) {
+        let operation = operations.iter().find(|o| o.name == name);
+        run(
+            operation.unwrap_or_else(|| panic!("no operation {name}")),
+            seed,
+            number(3, 0),
+        );
+        println!("{name} the same in case {} of seed {seed}", number(3, 0));
+        return;
+    }
+    println!("the library against the second program, seed {seed}, {seconds} s");
+    for operation in &operations {
+        let start = Instant::now();
+        let budget = Duration::from_secs_f64(seconds as f64 / operations.len() as f64);
+        let mut index = 0;
+        while index < operation.least || start.elapsed() < budget {
+            run(operation, seed, index);
+            index += 1;
+        }
+        let told = library::TOLD
+            .each_ref()
+            .map(|count| count.swap(0, Ordering::Relaxed));
+        let refused: Vec<String> = (1..10)
+            .filter(|k| told[*k] > 0)
+            .map(|k| format!("{k}: {}", told[k]))
+            .collect();
+        println!(
+            "{:12} {index:8} cases the same in {:5.1} s; calls answered {}, refused {}",
+            operation.name,
+            start.elapsed().as_secs_f64(),
+            told[0],
+            refused.join(", ")
+        );
+    }
+}
