@@ -1,7 +1,7 @@
 -- The label bytes as they are written: on each of the two lanes the labels settled so far stand at their places, and no write on
 -- one lane touches the other. With the pending ones written as undecided, both lanes side by side are the label bytes.
 use mathlib.Core.Path.{_≡_, refl, sym, ap, _∙_}
-use mathlib.Core.Logic.{_⊎_, ⊎-elim}
+use mathlib.Core.Logic.{⊎-elim}
 use mathlib.Core.Bool.{Bool, false}
 use mathlib.Core.List.{List, [], _∷_, _++_}
 use Prim.Native.Nat.{ℕ, suc, _+_, _*_, _-_, _≤_, _<_}

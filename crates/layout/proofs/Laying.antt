@@ -3,7 +3,7 @@
 use mathlib.Core.Path.{_≡_, refl, ap, sym, _∙_}
 use mathlib.Core.List.{List, [], _∷_, _++_}
 use Prim.Native.Nat.{ℕ, _+_}
-use lib.ListN.{length, length-append}
+use lib.ListN.{length}
 use lib.Seq.{sets}
 use Rattle.records.proofs.Numbers.{sets-append}
 

@@ -1,15 +1,15 @@
 -- Both round trips of a track in bytes. `track-read-write`: a track that fits its fields is read back out of its bytes, whose words are in order.
 -- `track-write-read`: bytes whose words are in order are the bytes of the track that is read out of them.
 -- Assumes nothing.
-use mathlib.Core.Path.{_≡_, refl, ap, sym, _∙_}
-use mathlib.Core.Bool.{Bool, true, false, cond, _&&_, _||_, not, and-eq-true-iff}
-use mathlib.Core.List.{List, [], _∷_, _++_, append-assoc}
-use Prim.Native.Nat.{ℕ, zero, suc, _+_, _^_, _≤_, _<_}
+use mathlib.Core.Path.{_≡_, refl, ap, _∙_}
+use mathlib.Core.Bool.{Bool, true, false, _&&_, _||_, not}
+use mathlib.Core.List.{List, _++_, append-assoc}
+use Prim.Native.Nat.{ℕ, _^_, _≤_, _<_}
 use native.Mathlib.Omega.{arith}
-use lib.ListN.{length, getD, length-append}
+use lib.ListN.{length, length-append}
 use lib.Dec.{leb, eqb}
-use borrow.Author.Tests.{le-leb, leb-true, eqb-true, eqb-false, eq-eqb, ne-eqb}
-use Rattle.records.specs.Bytes.{number, numberAt, part, bytesOf, areZero, Bytes}
+use borrow.Author.Tests.{le-leb}
+use Rattle.records.specs.Bytes.{numberAt, part, bytesOf, areZero}
 use Rattle.records.proofs.Numbers.{number-of-bytes, length-bytes}
 use Rattle.runs.specs.Figures.{idle, none}
 use Rattle.runs.specs.Middles.{unit}

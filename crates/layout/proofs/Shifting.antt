@@ -1,16 +1,16 @@
 -- What stands in front of bytes moves the places in them on: each value that is read from n + i behind n bytes is the one that is read from i without them.
 -- Assumes nothing.
 use mathlib.Core.Path.{_≡_, refl, ap, sym, _∙_}
-use mathlib.Core.Bool.{Bool, true, false, _&&_, _||_, not}
-use mathlib.Core.List.{List, [], _∷_, _++_}
+use mathlib.Core.Bool.{Bool, true, false}
+use mathlib.Core.List.{List, _++_}
 use Prim.Native.Nat.{ℕ, zero, suc, _+_}
 use native.Mathlib.Nat.{add-assoc}
 use native.Mathlib.Omega.{arith}
 use lib.ListN.{length, getD}
 use lib.Seq.{getD-append-add}
-use lib.Dec.{leb, eqb}
+use lib.Dec.{eqb}
 use Rattle.records.specs.Bytes.{number, numberAt, part, areZero}
-use Rattle.layout.specs.Reading.{loadIn, figuresIn, edgesIn, runIn, labelIn, middleIn, trackBy, trackIn, runWords, wordsBy, wordsMeet}
+use Rattle.layout.specs.Reading.{loadIn, figuresIn, runIn, middleIn, trackBy, trackIn, runWords, wordsBy, wordsMeet}
 
 module _ (pre s : List ℕ) where
   getD-behind : (i : ℕ) → getD (pre ++ s) (length pre + i) 0 ≡ getD s i 0

@@ -1,6 +1,6 @@
 -- The bytes of a track, 216: its kind, the first run, what lies between, and the last run. What it does not have leaves 0.
 use Prim.Native.Nat.{ℕ}
-use mathlib.Core.Bool.{Bool, true, false, cond}
+use mathlib.Core.Bool.{Bool, false, cond}
 use mathlib.Core.List.{List, _++_}
 use Rattle.records.specs.Bytes.{bytesOf}
 use Rattle.runs.specs.Figures.{idle}

@@ -1,5 +1,5 @@
 -- The values of a track in bytes, from a place on, and the words that a writer makes.
-use Prim.Native.Nat.{ℕ, zero, suc, _+_}
+use Prim.Native.Nat.{ℕ, _+_}
 use mathlib.Core.Bool.{Bool, true, false, _&&_, _||_, not}
 use mathlib.Core.List.{List}
 use lib.Dec.{leb, eqb}

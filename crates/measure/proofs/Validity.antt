@@ -1,11 +1,11 @@
 -- The interval of sound frames meets every rule of an interval record, so that what is written is read back as the values of the definition.
 -- Each rule is shown of the list of frames by induction on it.
 -- Assumes nothing.
-use mathlib.Core.Path.{_≡_, refl, ap, sym, _∙_, subst}
+use mathlib.Core.Path.{_≡_, refl, ap, subst}
 use mathlib.Core.Bool.{Bool, true, false, cond, _&&_, _||_, not}
 use mathlib.Core.List.{List, [], _∷_}
 use Prim.Native.Nat.{ℕ, zero, suc, _+_, _-_, _*_, _≤_, _<_, min, max}
-use native.Mathlib.Nat.{mul-suc, mul-le-mul-right, le-trans}
+use native.Mathlib.Nat.{mul-suc}
 use native.Mathlib.Decide.{decLt}
 use native.Mathlib.Omega.{arith}
 use lib.ListN.{length}

@@ -1,6 +1,6 @@
 -- From frames to one interval, as document 01 says: what is counted and summed over the frames of an interval.
 use Prim.Native.Nat.{ℕ, _+_, _-_, min, max}
-use mathlib.Core.Bool.{Bool, true, false, _&&_, not, cond}
+use mathlib.Core.Bool.{Bool, _&&_, not, cond}
 use mathlib.Core.List.{List, [], _∷_}
 use lib.ListN.{length}
 use lib.Dec.{ltb}

@@ -1,7 +1,7 @@
 -- What the operation `interval` answers and leaves in the caller's buffer, for every input, in document 01's order of refusals.
 use Prim.Native.Nat.{ℕ, zero, suc, _+_, _*_}
 use mathlib.Core.Path.{_≡_}
-use mathlib.Core.Bool.{Bool, true, false, _&&_, cond}
+use mathlib.Core.Bool.{Bool, true, false, _&&_}
 use mathlib.Core.List.{List, [], _∷_}
 use lib.ListN.{length}
 use lib.Dec.{leb, ltb, eqb}
@@ -15,7 +15,6 @@ use Rattle.records.specs.Room.{hasRoom}
 use Rattle.records.specs.Settings.{settingsOf}
 use Rattle.records.specs.declared.frame.Frame.{Frame}
 use Rattle.records.specs.declared.frame.FrameRead.{FrameRead}
-use Rattle.records.specs.declared.interval.Interval.{Interval}
 use Rattle.records.specs.declared.many.Counted.{Counted}
 use Rattle.records.specs.declared.refusal.Fault.{Fault}
 use Rattle.records.specs.declared.refusal.Refusal.{Refusal}

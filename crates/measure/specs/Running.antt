@@ -1,6 +1,6 @@
 -- A tally that takes one frame after the other. Its law (proofs/Tallies.antt): after frames fs it holds what `measured` says of fs.
 use Prim.Native.Nat.{ℕ, _+_, _*_, _≤_, min, max}
-use mathlib.Core.Bool.{Bool, true, false, _&&_, not, cond}
+use mathlib.Core.Bool.{Bool, false, _&&_, not, cond}
 use mathlib.Core.List.{List, [], _∷_}
 use lib.Dec.{eqb, ltb}
 use Rattle.records.specs.Limits.{largestDelay}

@@ -9,7 +9,7 @@ use native.Mathlib.Omega.{arith}
 use lib.ListN.{length}
 use lib.Dec.{leb, ltb, eqb}
 use borrow.Author.Tests.{le-ltb, lt-ltb}
-use Rattle.measure.specs.Outcome.{Frames, sound, faulty, with, unless, framesIn, readsFrom, lengthOf, judgedOf, refuseIf, judgedFrames, judgedCount, judgedSettings, judged, answerOf, leftOf, Outcome}
+use Rattle.measure.specs.Outcome.{Frames, sound, faulty, with, unless, framesIn, readsFrom, lengthOf, judgedOf, refuseIf, judgedFrames, judgedCount, judgedSettings, judged, answerOf, Outcome}
 use Rattle.measure.specs.declared.Answer.{Answer}
 use Rattle.measure.specs.declared.Judged.{Judged}
 use Rattle.records.specs.Limits.{frames, intervals}
@@ -25,7 +25,6 @@ use Rattle.records.specs.declared.refusal.Refusal.{Refusal}
 use Rattle.records.specs.declared.settings.LabelSettings.{LabelSettings}
 use Rattle.records.specs.declared.settings.SettingsRead.{SettingsRead}
 use Rattle.mippadusk.specs.FrameList.{wordFor, IntervalLeft}
-use Rattle.mippadusk.specs.Word.{wordOf}
 
 -- the place of a fault, 0 where there is none
 

@@ -1,10 +1,9 @@
 -- `mip_start` and `mip_step`: words written one by one stand over the first words; the outcomes under each test.
-use Prim.Native.Nat.{ℕ, suc, _≤_, _<_, _^_}
-use mathlib.Core.Bool.{true, false}
-use mathlib.Core.List.{List, [], _∷_, _++_}
+use Prim.Native.Nat.{ℕ, suc, _≤_, _<_}
+use mathlib.Core.List.{List, [], _∷_}
 use mathlib.Core.Path.{_≡_, refl, ap, sym, _∙_}
 use native.Mathlib.Omega.{arith}
-use lib.ListN.{length, drop, set, length-set}
+use lib.ListN.{length, set, length-set}
 use borrow.Author.Tests.{le-leb, lt-leb, eq-eqb, ne-eqb}
 use Rattle.evaluator.specs.Evaluators.{startOf, stepOf}
 use Rattle.evaluator.specs.declared.Answer.{Answer}
@@ -14,7 +13,7 @@ use Rattle.evaluator.specs.declared.Stepped.{Stepped}
 use Rattle.records.specs.Refusals.{refusal}
 use Rattle.records.specs.declared.refusal.Fault.{Fault}
 use Rattle.records.specs.declared.refusal.Refusal.{Refusal}
-use Rattle.mippadusk.specs.Running.{over, written, settingWords, stateWords, evaluatorWords, settledWords, evaluatorIn, startTold, startWord, startWords, StartLeft, stepTold, stepWord, evaluatorLeft, settledLeft, StepLeft}
+use Rattle.mippadusk.specs.Running.{over, written, settingWords, stateWords, evaluatorWords, settledWords, evaluatorIn, startTold, StartLeft, stepTold, stepWord, evaluatorLeft, settledLeft, StepLeft}
 use Rattle.mippadusk.specs.Word.{wordOf}
 
 -- writing behind the first word leaves it

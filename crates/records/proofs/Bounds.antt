@@ -3,7 +3,7 @@
 -- Assumes nothing.
 use Prim.Native.Nat.{_*_, _^_, _<_}
 use native.Mathlib.Omega.{arith}
-use Rattle.records.specs.Limits.{intervals, frames, largestDelay, delays, pairs, million}
+use Rattle.records.specs.Limits.{intervals, frames, largestDelay, delays, million}
 
 pub intervals-fit : intervals < 2 ^ 32
 unfolding intervals

@@ -1,18 +1,17 @@
 -- Laws of the interval record: each rule of a valid one as a fact, its length, how its bytes are put, and both round trips.
 -- Each fact is its rule of the list, taken out by its place; with bytes of known width both round trips are computed field by field.
 -- Assumes nothing.
-use mathlib.Core.Path.{_≡_, refl, ap, sym, _∙_, subst}
+use mathlib.Core.Path.{_≡_, refl, subst}
 use mathlib.Core.Logic.{_⊎_, inl, inr}
 use mathlib.Core.Bool.{Bool, true, false, cond, _&&_, _||_, and-eq-true-iff}
 use mathlib.Core.List.{List, _∷_, _++_}
-use Prim.Native.Nat.{ℕ, _*_, _^_, _-_, _≤_, _<_}
-use native.Mathlib.Nat.{mul-le-mul-left, mul-le-mul-right, le-trans, sub-le}
+use Prim.Native.Nat.{ℕ, _*_, _≤_, _<_}
 use native.Mathlib.Omega.{arith}
-use lib.ListN.{length, getD}
+use lib.ListN.{length}
 use lib.Seq.{sets}
-use lib.Dec.{leb, ltb, eqb}
-use borrow.Author.Tests.{leb-true, ltb-true, eqb-true, eq-eqb, eqb-false}
-use Rattle.records.specs.Bytes.{number, numberAt, part, bytesOf, areZero, Bytes}
+use lib.Dec.{ltb, eqb}
+use borrow.Author.Tests.{leb-true, ltb-true, eqb-true, eqb-false}
+use Rattle.records.specs.Bytes.{number, bytesOf}
 use Rattle.records.specs.Limits.{intervals, frames, largestDelay}
 use Rattle.records.specs.Rules.{allMet}
 use Rattle.records.specs.Interval.{
@@ -33,8 +32,6 @@ use Rattle.records.specs.Interval.{
 use Rattle.records.specs.declared.interval.Interval.{Interval}
 use Rattle.records.specs.declared.interval.IntervalRead.{IntervalRead}
 use Rattle.records.proofs.Rules.{rule-met}
-use Rattle.records.proofs.Bounds.{intervals-fit, frames-fit, largest-delay-fits, interval-sum-fits}
-use Rattle.records.proofs.Numbers.{number-of-bytes}
 
 -- the facts of a valid interval; those on delays hold with nothing delivered too
 pub record IntervalValid (v : Interval) : Type 0 where

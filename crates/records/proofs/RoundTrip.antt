@@ -2,11 +2,11 @@
 -- same values. `write-read`: the bytes of a valid record are the bytes written of its values. With bytes of known width each field is computed, and what is left
 -- is that the field's number fits its width, which the rules give, or that the spare bytes are 0.
 -- Assumes nothing.
-use mathlib.Core.Path.{_≡_, refl, ap, sym, _∙_, subst}
+use mathlib.Core.Path.{_≡_, refl, ap, sym, _∙_}
 use mathlib.Core.Logic.{⊎-elim, _↔_}
-use mathlib.Core.Bool.{Bool, true, false, cond, _&&_, and-eq-true-iff}
-use mathlib.Core.List.{List, [], _∷_, _++_}
-use Prim.Native.Nat.{ℕ, zero, suc, _+_, _*_, _^_, _-_, _≤_, _<_}
+use mathlib.Core.Bool.{Bool, true, false, cond, and-eq-true-iff}
+use mathlib.Core.List.{List, _∷_, _++_}
+use Prim.Native.Nat.{ℕ, zero, suc, _*_, _^_, _≤_, _<_}
 use native.Mathlib.Nat.{mul-le-mul-left, mul-le-mul-right}
 use native.Mathlib.Omega.{arith}
 use lib.ListN.{length, getD}
@@ -14,13 +14,12 @@ use lib.Dec.{leb, eqb}
 use borrow.Author.Tests.{leb-true, eqb-true, eqb-false, eq-eqb}
 use Rattle.records.specs.Bytes.{number, numberAt, part, bytesOf, areZero, Bytes}
 use Rattle.records.specs.Limits.{frames, largestDelay}
-use Rattle.records.specs.Rules.{allMet}
 use Rattle.records.specs.Interval.{intervalIn, deliveredIn, countsMeet, delaysMeet, intervalRules, intervalOf, countBytes, delayBytes, intervalBytes}
 use Rattle.records.specs.Settings.{labelIn, labelMeets, shapeBytes, thresholdBytes, labelBytes}
 use Rattle.records.specs.declared.interval.Interval.{Interval}
 use Rattle.records.specs.declared.interval.IntervalRead.{IntervalRead}
 use Rattle.records.specs.declared.settings.LabelSettings.{LabelSettings}
-use Rattle.records.proofs.SettingsRecord.{LabelValid, label-valid}
+use Rattle.records.proofs.SettingsRecord.{label-valid}
 use Rattle.records.proofs.Rules.{rule-met}
 use Rattle.records.proofs.Bounds.{intervals-fit, frames-fit, largest-delay-fits, million-fits, interval-sum-fits}
 use Rattle.records.proofs.Numbers.{number-of-bytes, bytes-of-number, length-part, part-is-bytes, part-append, part-whole}

@@ -3,7 +3,7 @@
 -- Assumes nothing.
 use mathlib.Core.Path.{_≡_, refl, ap, sym, _∙_}
 use mathlib.Core.Bool.{Bool, true, false, cond}
-use mathlib.Core.List.{List, [], _∷_, map}
+use mathlib.Core.List.{List, _∷_}
 use Prim.Native.Nat.{ℕ, suc, _+_, _-_, _/_, _≤_, _<_}
 use native.Mathlib.Nat.{add-zero}
 use native.Mathlib.Omega.{arith}
@@ -13,7 +13,7 @@ use Rattle.records.specs.Interval.{intervalOf}
 use Rattle.records.specs.Limits.{intervals}
 use Rattle.records.specs.Many.{recordAt}
 use Rattle.records.specs.Refusals.{refusal}
-use Rattle.records.specs.Sequence.{readsFrom, intervalsIn, checked}
+use Rattle.records.specs.Sequence.{readsFrom, checked}
 use Rattle.records.specs.declared.interval.Interval.{Interval}
 use Rattle.records.specs.declared.interval.IntervalRead.{IntervalRead}
 use Rattle.records.specs.declared.refusal.Fault.{Fault}

@@ -1,7 +1,7 @@
 -- The pieces of a summary, put one behind the other into 1,024 bytes, are its bytes; the label settings go through a part that is lent on.
 -- Assumes nothing.
-use mathlib.Core.Path.{_≡_, refl, ap, sym, _∙_}
-use mathlib.Core.List.{List, [], _∷_, _++_, append-assoc}
+use mathlib.Core.Path.{_≡_, sym, _∙_}
+use mathlib.Core.List.{List, [], _∷_, append-assoc}
 use Prim.Native.Nat.{ℕ, _+_, _-_, _≤_}
 use native.Mathlib.Omega.{arith}
 use lib.ListN.{length, take, drop, length-append}
@@ -9,7 +9,6 @@ use lib.Seq.{sets, sets-eq, length-sets, drop-drop}
 use borrow.Rule.Slice.PartMut.{putMid}
 use Rattle.records.specs.Bytes.{bytesOf, placed}
 use Rattle.records.specs.Settings.{labelBytes}
-use Rattle.records.specs.declared.settings.LabelSettings.{LabelSettings}
 use Rattle.records.proofs.Numbers.{length-bytes}
 use Rattle.records.proofs.RoundTrip.{length-label}
 use Rattle.records.proofs.Window.{part-placed, sets-whole}

@@ -12,7 +12,7 @@ use Rattle.records.specs.Settings.{sameLabel}
 use Rattle.records.specs.declared.refusal.Fault.{Fault}
 use Rattle.records.specs.declared.refusal.Refusal.{Refusal}
 use Rattle.tracks.specs.Tracks.{join}
-use Rattle.summaries.specs.Stored.{summaryOf, summaryBytes, headerMeets, tracksMeet}
+use Rattle.summaries.specs.Stored.{summaryOf, summaryBytes}
 use Rattle.summaries.specs.declared.joining.Joined.{Joined}
 use Rattle.summaries.specs.declared.stored.Summary.{Summary}
 use Rattle.summaries.specs.declared.stored.SummaryRead.{SummaryRead}

@@ -1,8 +1,8 @@
 -- What the operation `summary` answers and leaves in the caller's buffer, for every input, in document 01's order of refusals.
-use Prim.Native.Nat.{ℕ, _+_, _≤_, _<_}
+use Prim.Native.Nat.{ℕ, _+_, _<_}
 use mathlib.Core.Path.{_≡_}
 use mathlib.Core.Bool.{Bool, true, false, cond}
-use mathlib.Core.List.{List, [], _∷_, map}
+use mathlib.Core.List.{List, map}
 use lib.ListN.{length}
 use lib.Dec.{ltb}
 use Rattle.records.specs.Bytes.{placed}

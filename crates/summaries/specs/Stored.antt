@@ -1,6 +1,6 @@
 -- The summary record, 1,024 bytes: the stretch's numbers, the label settings, the loss track, the composite track, and spare bytes.
 use Prim.Native.Nat.{ℕ, _-_}
-use mathlib.Core.Bool.{Bool, true, false, _&&_}
+use mathlib.Core.Bool.{Bool, true, false}
 use mathlib.Core.List.{List, [], _∷_, _++_}
 use lib.ListN.{length, getD, take, drop}
 use lib.Dec.{leb, eqb}

@@ -1,5 +1,5 @@
 -- `mip_interval` meets its contract: it says what `interval` answers as a word, and the place fits.
-use mathlib.Core.Path.{refl, ap, sym, _∙_}
+use mathlib.Core.Path.{ap, sym, _∙_}
 use borrow.Author.Needs.{needs}
 use Rattle.mippadusk.specs.FrameList.{wordFor}
 use Rattle.mippadusk.proofs.Measured.{place-fits, as-word}

@@ -1,5 +1,5 @@
 -- `mip_labels` meets its contract: it says what `labels` answers as a word, and the place fits.
-use mathlib.Core.Path.{refl, ap, sym, _∙_}
+use mathlib.Core.Path.{ap, sym, _∙_}
 use borrow.Author.Needs.{needs}
 use Rattle.mippadusk.specs.LabelList.{wordFor}
 use Rattle.mippadusk.proofs.Labelled.{place-fits, as-word}

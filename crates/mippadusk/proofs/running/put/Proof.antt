@@ -1,9 +1,8 @@
 -- `put` writes the label settings and then the rest: together the evaluator's thirteen words.
 use mathlib.Core.Path.{_∙_, ap}
 use borrow.Author.Needs.{needs}
-use native.Mathlib.Omega.{arith}
 use Rattle.mippadusk.specs.Running.{written, stateWords}
-use Rattle.mippadusk.proofs.Stepped.{evaluator-written, length-written}
+use Rattle.mippadusk.proofs.Stepped.{evaluator-written}
 use Rattle.mippadusk.proofs.running.put.Statement.{statement}
 use Rattle.mippadusk.proofs.running.put.Tie as tie
 

@@ -3,8 +3,6 @@
 use mathlib.Core.Path.{_≡_, refl, ap, sym, _∙_}
 use mathlib.Core.Bool.{_&&_, and-true}
 use native.Mathlib.Omega.{arith}
-use Prim.Native.Nat.{_≤_, zero}
-use lib.ListN.{length}
 use Rattle.records.specs.Bytes.{areZero}
 use Rattle.records.proofs.Zeros.{zero-past, zero-next}
 use Rattle.records.proofs.bytes.are_zero.Statement.{statement}

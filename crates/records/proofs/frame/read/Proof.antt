@@ -7,7 +7,7 @@ use Prim.Native.Nat.{ℕ}
 use lib.Dec.{leb, eqb}
 use lib.ListN.{length, getD}
 use borrow.Author.Tests.{eq-eqb, ne-eqb}
-use Rattle.records.specs.Bytes.{numberAt, areZero}
+use Rattle.records.specs.Bytes.{areZero}
 use Rattle.records.specs.Frame.{frameIn, frameRules, frameOf, validIf}
 use Rattle.records.specs.Limits.{largestDelay}
 use Rattle.records.specs.declared.frame.Frame.{Frame}

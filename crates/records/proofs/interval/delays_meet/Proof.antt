@@ -1,9 +1,8 @@
-use mathlib.Core.Path.{_≡_, sym, _∙_}
+use mathlib.Core.Path.{sym, _∙_}
 -- `records::interval::delays_meet` meets its contract: the rules of the case that holds, one after the other.
 -- Assumes nothing.
 use Rattle.records.specs.Interval.{delayRules, delaysMeet, noDelayRules}
 use Rattle.records.specs.Limits.{largestDelay}
-use Prim.Native.Nat.{_-_}
 use borrow.Author.Tests.{eq-eqb, ne-eqb}
 use borrow.Author.Needs.{needs}
 use Rattle.records.proofs.interval.delays_meet.Statement.{statement}

@@ -1,14 +1,13 @@
 -- `summaries::joining::join` meets its contract: one law of `Judging` for each way out, and the part that has room is filled whole.
 -- Assumes nothing.
-use mathlib.Core.Path.{_≡_, sym, _∙_}
+use mathlib.Core.Path.{sym, _∙_}
 use Prim.Native.Nat.{_+_, _≤_}
 use native.Mathlib.Omega.{arith}
 use borrow.Author.Tests.{not-true, not-false}
 use lib.ListN.{length}
 use Rattle.records.proofs.SettingsRecord.{same-label-equal}
 use Rattle.records.proofs.Window.{room-within}
-use Rattle.summaries.specs.Joining.{Adjoining, joinedOf}
-use Rattle.summaries.specs.Stored.{summaryBytes}
+use Rattle.summaries.specs.Joining.{Adjoining}
 use Rattle.summaries.proofs.Judging.{short-left, short-right, no-room, bad-left, bad-right, other-settings, apart, made}
 use Rattle.summaries.proofs.Placing.{part-filled, size-summary}
 use borrow.Author.Needs.{needs}

@@ -4,7 +4,6 @@ use mathlib.Core.Path.{_≡_, ap, sym, _∙_}
 use Prim.Native.Nat.{_/_, _<_}
 use native.Mathlib.Omega.{arith}
 use lib.ListN.{length}
-use Rattle.records.specs.Limits.{intervals}
 use Rattle.records.proofs.IntervalRecord.{interval-valid}
 use Rattle.runs.specs.Runs.{single}
 use Rattle.rules.specs.Marking.{markedAs}

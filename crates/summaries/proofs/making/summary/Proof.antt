@@ -1,13 +1,11 @@
 -- `summaries::making::summary` meets its contract: one law of `Answering` for each way out, and the part that has room is filled whole.
 -- Assumes nothing.
-use mathlib.Core.Path.{_≡_, sym, _∙_}
-use mathlib.Core.Bool.{true}
+use mathlib.Core.Path.{sym, _∙_}
 use Prim.Native.Nat.{_+_, _≤_}
 use native.Mathlib.Omega.{arith}
 use lib.ListN.{length}
 use borrow.Author.Tests.{not-true, not-false}
 use Rattle.records.specs.Limits.{intervals}
-use Rattle.records.specs.Room.{hasRoom}
 use Rattle.records.proofs.Window.{room-within}
 use Rattle.labels.proofs.Placing.{read-label}
 use Rattle.summaries.specs.Stored.{summaryBytes}
