@@ -2,13 +2,13 @@
 -- asks of a run that comes behind it, which a valid record gives.
 -- Assumes nothing.
 use mathlib.Core.Path.{_≡_, refl, ap, sym, _∙_}
-use mathlib.Core.Bool.{Bool, true, false, cond}
+use mathlib.Core.Bool.{Bool, true, false, cond, not}
 use mathlib.Core.List.{List, [], _∷_, map}
 use Prim.Native.Nat.{ℕ, suc, _+_, _-_, _/_, _≤_, _<_}
 use native.Mathlib.Nat.{add-zero}
 use native.Mathlib.Omega.{arith}
 use lib.ListN.{length}
-use borrow.Author.Tests.{eq-eqb, ne-eqb}
+use borrow.Author.Tests.{eq-eqb, ne-eqb, not-true, not-false}
 use Rattle.records.specs.Interval.{intervalOf}
 use Rattle.records.specs.Limits.{intervals}
 use Rattle.records.specs.Many.{recordAt}
@@ -99,6 +99,16 @@ either false f g t r = refl
 module _ (n p : ℕ) where
   grown : (f : Front) (t r : Run) → withLast (cond (same t r) f (turned n p f t)) (cond (same t r) (glue p t r) r) ≡ push n p (withLast f t) r
   grown f t r = either (same t r) f (turned n p f t) (glue p t r) r ∙ sym (push-last n p f t r)
+
+  -- what stands before the last run, where the mark changed and where it stayed
+
+  pub front-turned :
+      (f : Front) {f′ : Front} (t r : Run) {b : Bool} → f′ ≡ turned n p f t → b ≡ same t r → not b ≡ true → f′ ≡ cond (same t r) f (turned n p f t)
+  front-turned f t r ef e h = rw (sym e ∙ not-true _ h) ef
+
+  pub front-kept :
+      (f : Front) {f′ : Front} (t r : Run) {b : Bool} → f′ ≡ f → b ≡ same t r → not b ≡ false → f′ ≡ cond (same t r) f (turned n p f t)
+  front-kept f t r ef e h = rw (sym e ∙ not-false _ h) ef
 
   pub grown-to :
       (f : Front) {f′ : Front} (t : Run) {t′ x : Run} (r : Run) →
