@@ -20,7 +20,9 @@ use Rattle.records.specs.declared.refusal.Fault.{Fault}
 use Rattle.records.specs.declared.settings.LabelSettings.{LabelSettings}
 use Rattle.records.proofs.IntervalRecord.{IntervalValid}
 use Rattle.records.proofs.Sequences.{reads-all, reads-next, reads-done}
+use Rattle.labels.specs.Marked.{countsOf, bothHigh}
 use Rattle.labels.specs.Stretch.{intervalsOf}
+use Rattle.labels.specs.declared.marks.Both.{Both}
 use Rattle.runs.specs.declared.run.Run.{Run}
 use Rattle.runs.specs.Runs.{single, glue, same}
 use Rattle.runs.specs.Valid.{RunValid, RunsFit}
@@ -89,6 +91,16 @@ pub from-second :
     ≡ onwards l first (first + 1) 1 (One (single (lossSeen l v))) (One (single (compositeSeen l v))) (readsFrom (length s / 48 - 1) s 1)
 unfolding push
 from-second l first s v h e same = from-first l first s ∙ on-next l first (length s / 48) 0 first s Nothing Nothing v h e same
+
+-- the run of an interval on each track, by the marks that code has made
+
+pub loss-run :
+    (l : LabelSettings) (v : Interval) {m : Both} {x : Run} → x ≡ single (markedAs (m .loss) v) → m ≡ bothHigh l (countsOf v) → x ≡ single (lossSeen l v)
+loss-run l v e h = e ∙ ap (λ k. single (markedAs (k .loss) v)) h
+
+pub composite-run :
+    (l : LabelSettings) (v : Interval) {m : Both} {x : Run} → x ≡ single (markedAs (m .composite) v) → m ≡ bothHigh l (countsOf v) → x ≡ single (compositeSeen l v)
+composite-run l v e h = e ∙ ap (λ k. single (markedAs (k .composite) v)) h
 
 -- a run behind a track, taken apart into its last run and what stands before it
 

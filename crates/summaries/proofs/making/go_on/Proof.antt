@@ -1,6 +1,6 @@
 -- `summaries::making::go_on` meets its contract: at each turn the laws of `Gathering` say what the record at k does.
 -- Assumes nothing.
-use mathlib.Core.Path.{_≡_, refl, ap, sym, _∙_}
+use mathlib.Core.Path.{_≡_, refl, sym, _∙_}
 use mathlib.Core.Bool.{cond}
 use mathlib.Core.List.{List}
 use mathlib.Core.Logic.{⊎-elim}
@@ -14,13 +14,12 @@ use Rattle.records.proofs.IntervalRecord.{interval-valid}
 use Rattle.labels.specs.Marked.{lossMark, compositeMark}
 use Rattle.runs.specs.declared.run.Run.{Run}
 use Rattle.runs.specs.Runs.{single, same}
-use Rattle.rules.specs.Marking.{markedAs}
 use Rattle.tracks.specs.declared.Front.{Front}
 use Rattle.tracks.specs.declared.Track.the-variants.{One}
 use Rattle.tracks.specs.Tracks.{push, withLast, turned}
 use Rattle.tracks.specs.Valid.{TrackValid}
 use Rattle.summaries.specs.Making.{lossSeen, compositeSeen, onwards}
-use Rattle.summaries.proofs.Gathering.{on-done, on-invalid, on-disordered, on-next, front-turned, front-kept, grown-to, turn-fits, glue-fits, grown-valid}
+use Rattle.summaries.proofs.Gathering.{loss-run, composite-run, on-done, on-invalid, on-disordered, on-next, front-turned, front-kept, grown-to, turn-fits, glue-fits, grown-valid}
 use Rattle.summaries.proofs.making.go_on.Statement.{statement}
 use Rattle.summaries.proofs.making.go_on.Tie as tie
 
@@ -134,9 +133,9 @@ loop-again c = let a = c .before .before .before .before .before .before .before
     let g : c .before .if3 .composite-front ≡ cond (same (l .composite-last) (c .before .before .before .before .before .before .run-of2 .result)) (l .composite-front) (turned (a .l .n) (a .l .p) (l .composite-front) (l .composite-last)) =
     ⊎-elim (λ w. front-turned (a .l .n) (a .l .p) (l .composite-front) (l .composite-last) (c .before .before .before .before .before .before .run-of2 .result) (w .2 ∙ w .1 .ensures) (c .before .before .same2 .ensures) (w .0 .taken)) (λ w. front-kept (a .l .n) (a .l .p) (l .composite-front) (l .composite-last) (c .before .before .before .before .before .before .run-of2 .result) (w .1) (c .before .before .same2 .ensures) (w .0 .left)) (c .before .if3 .came) in
     let p : withLast (c .before .before .before .before .if2 .loss-front) (c .before .before .before .last-after .result) ≡ push (a .l .n) (a .l .p) (withLast (l .loss-front) (l .loss-last)) (single (lossSeen (a .l) v)) =
-    grown-to (a .l .n) (a .l .p) (l .loss-front) (l .loss-last) (single (lossSeen (a .l) v)) (c .before .before .before .before .before .before .before .run-of .ensures ∙ ap (λ m. single (markedAs (m .loss) v)) (c .before .before .before .before .before .before .before .before .marks .ensures)) f (c .before .before .before .last-after .ensures) in
+    grown-to (a .l .n) (a .l .p) (l .loss-front) (l .loss-last) (single (lossSeen (a .l) v)) (loss-run (a .l) v (c .before .before .before .before .before .before .before .run-of .ensures) (c .before .before .before .before .before .before .before .before .marks .ensures)) f (c .before .before .before .last-after .ensures) in
     let q : withLast (c .before .if3 .composite-front) (c .last-after2 .result) ≡ push (a .l .n) (a .l .p) (withLast (l .composite-front) (l .composite-last)) (single (compositeSeen (a .l) v)) =
-    grown-to (a .l .n) (a .l .p) (l .composite-front) (l .composite-last) (single (compositeSeen (a .l) v)) (c .before .before .before .before .before .before .run-of2 .ensures ∙ ap (λ m. single (markedAs (m .composite) v)) (c .before .before .before .before .before .before .before .before .marks .ensures)) g (c .last-after2 .ensures) in
+    grown-to (a .l .n) (a .l .p) (l .composite-front) (l .composite-last) (single (compositeSeen (a .l) v)) (composite-run (a .l) v (c .before .before .before .before .before .before .run-of2 .ensures) (c .before .before .before .before .before .before .before .before .marks .ensures)) g (c .last-after2 .ensures) in
     record {
       numbered = omega (arith, l .inv .numbered);
       few = omega (arith, valid .number-fact, c .before .before .before .before .before .before .before .before .before .if1 .left);
