@@ -2,13 +2,13 @@
 -- asks of a run that comes behind it, which a valid record gives.
 -- Assumes nothing.
 use mathlib.Core.Path.{_≡_, refl, ap, sym, _∙_}
-use mathlib.Core.Bool.{Bool, true, false, cond}
+use mathlib.Core.Bool.{Bool, true, false, cond, not}
 use mathlib.Core.List.{List, _∷_}
 use Prim.Native.Nat.{ℕ, suc, _+_, _-_, _/_, _≤_, _<_}
 use native.Mathlib.Nat.{add-zero}
 use native.Mathlib.Omega.{arith}
 use lib.ListN.{length}
-use borrow.Author.Tests.{eq-eqb, ne-eqb}
+use borrow.Author.Tests.{eq-eqb, ne-eqb, not-true, not-false}
 use Rattle.records.specs.Interval.{intervalOf}
 use Rattle.records.specs.Limits.{intervals}
 use Rattle.records.specs.Many.{recordAt}
@@ -20,7 +20,9 @@ use Rattle.records.specs.declared.refusal.Fault.{Fault}
 use Rattle.records.specs.declared.settings.LabelSettings.{LabelSettings}
 use Rattle.records.proofs.IntervalRecord.{IntervalValid}
 use Rattle.records.proofs.Sequences.{reads-all, reads-next, reads-done}
+use Rattle.labels.specs.Marked.{countsOf, bothHigh}
 use Rattle.labels.specs.Stretch.{intervalsOf}
+use Rattle.labels.specs.declared.marks.Both.{Both}
 use Rattle.runs.specs.declared.run.Run.{Run}
 use Rattle.runs.specs.Runs.{single, glue, same}
 use Rattle.runs.specs.Valid.{RunValid, RunsFit}
@@ -90,6 +92,16 @@ pub from-second :
 unfolding push
 from-second l first s v h e same = from-first l first s ∙ on-next l first (length s / 48) 0 first s Nothing Nothing v h e same
 
+-- the run of an interval on each track, by the marks that code has made
+
+pub loss-run :
+    (l : LabelSettings) (v : Interval) {m : Both} {x : Run} → x ≡ single (markedAs (m .loss) v) → m ≡ bothHigh l (countsOf v) → x ≡ single (lossSeen l v)
+loss-run l v e h = e ∙ ap (λ k. single (markedAs (k .loss) v)) h
+
+pub composite-run :
+    (l : LabelSettings) (v : Interval) {m : Both} {x : Run} → x ≡ single (markedAs (m .composite) v) → m ≡ bothHigh l (countsOf v) → x ≡ single (compositeSeen l v)
+composite-run l v e h = e ∙ ap (λ k. single (markedAs (k .composite) v)) h
+
 -- a run behind a track, taken apart into its last run and what stands before it
 
 either : (c : Bool) (f g : Front) (t r : Run) → withLast (cond c f g) (cond c t r) ≡ cond c (withLast f t) (withLast g r)
@@ -99,6 +111,16 @@ either false f g t r = refl
 module _ (n p : ℕ) where
   grown : (f : Front) (t r : Run) → withLast (cond (same t r) f (turned n p f t)) (cond (same t r) (glue p t r) r) ≡ push n p (withLast f t) r
   grown f t r = either (same t r) f (turned n p f t) (glue p t r) r ∙ sym (push-last n p f t r)
+
+  -- what stands before the last run, where the mark changed and where it stayed
+
+  pub front-turned :
+      (f : Front) {f′ : Front} (t r : Run) {b : Bool} → f′ ≡ turned n p f t → b ≡ same t r → not b ≡ true → f′ ≡ cond (same t r) f (turned n p f t)
+  front-turned f t r ef e h = rw (sym e ∙ not-true _ h) ef
+
+  pub front-kept :
+      (f : Front) {f′ : Front} (t r : Run) {b : Bool} → f′ ≡ f → b ≡ same t r → not b ≡ false → f′ ≡ cond (same t r) f (turned n p f t)
+  front-kept f t r ef e h = rw (sym e ∙ not-false _ h) ef
 
   pub grown-to :
       (f : Front) {f′ : Front} (t : Run) {t′ x : Run} (r : Run) →

@@ -29,8 +29,6 @@ ghost use Rattle.records.specs.Settings.{labelMeets};
 ghost use Rattle.rules.specs.Marking.{markedAs};
 ghost use Rattle.runs.specs.Runs.{single, glue, same};
 ghost use Rattle.runs.specs.Valid.{RunsFit};
-ghost use Rattle.tracks.specs.Tracks.{turned};
-ghost use Rattle.tracks.specs.Valid.{TurnFits};
 ghost use Rattle.summaries.specs.Making.{gathered, onwards, Begun, Outcome};
 
 // A summary, or why there is none.
@@ -49,18 +47,6 @@ fn run_of(mark: bool, v: Interval) -> Run
     ensures { λ r. ⌜ r ≡ single (markedAs mark v) ⌝ }
 {
     run::single(rules::marked(mark, v))
-}
-
-// What stands before the last run when the run `r` has come behind `t`.
-fn front_after(n: u32, p: u32, f: Front, t: Run, r: Run) -> Front
-    requires { ⌜ TurnFits n p f t ⌝ }
-    ensures { λ x. ⌜ x ≡ cond (same t r) f (turned n p f t) ⌝ }
-{
-    if run::same(t, r) {
-        f
-    } else {
-        tracks::turned(n, p, f, t)
-    }
 }
 
 // The last run when the run `r` has come behind `t`.
@@ -104,9 +90,13 @@ fn go_on(l: LabelSettings, s: &[u8], n: usize, first: u32, a: Run, b: Run) -> Ga
         let m = marks::marks(l, v);
         let x = run_of(m.loss, v);
         let y = run_of(m.composite, v);
-        loss_front = front_after(w, p, loss_front, loss_last, x);
+        if !run::same(loss_last, x) {
+            loss_front = tracks::turned(w, p, loss_front, loss_last);
+        }
         loss_last = last_after(p, loss_last, x);
-        composite_front = front_after(w, p, composite_front, composite_last, y);
+        if !run::same(composite_last, y) {
+            composite_front = tracks::turned(w, p, composite_front, composite_last);
+        }
         composite_last = last_after(p, composite_last, y);
         next += 1;
         k += 1;

@@ -1,15 +1,14 @@
 -- `summaries::making::gather` meets its contract: the first record makes the first runs, and the rest goes on from them.
 -- Assumes nothing.
-use mathlib.Core.Path.{_≡_, ap, sym, _∙_}
+use mathlib.Core.Path.{_≡_, sym, _∙_}
 use Prim.Native.Nat.{_/_, _<_}
 use native.Mathlib.Omega.{arith}
 use lib.ListN.{length}
 use Rattle.records.proofs.IntervalRecord.{interval-valid}
 use Rattle.runs.specs.Runs.{single}
-use Rattle.rules.specs.Marking.{markedAs}
 use Rattle.tracks.specs.declared.Track.the-variants.{Nothing}
 use Rattle.summaries.specs.Making.{lossSeen, compositeSeen}
-use Rattle.summaries.proofs.Gathering.{from-first, from-second, on-done, on-invalid, on-disordered, seen-valid, seen-one}
+use Rattle.summaries.proofs.Gathering.{loss-run, composite-run, from-first, from-second, on-done, on-invalid, on-disordered, seen-valid, seen-one}
 use borrow.Author.Needs.{needs}
 use Rattle.summaries.proofs.making.gather.Statement.{statement}
 use Rattle.summaries.proofs.making.gather.Tie as tie
@@ -70,8 +69,8 @@ returns-4 : tie.Need-returns-4
 returns-4 c = let a = c .before .before .before .before .before .before .before .before .before .before .before .before .args in
     let v = c .before .before .before .before .before .before .before .v .given .0 .0 in
     let some : 0 < (length (a .s .now) / 48) = omega (arith, c .before .before .before .before .before .before .before .before .before .before .if1 .left) in
-    let p : c .before .before .run-of .result ≡ single (lossSeen (a .l) v) = c .before .before .run-of .ensures ∙ ap (λ m. single (markedAs (m .loss) v)) (c .before .before .before .marks .ensures) in
-    let q : c .before .run-of2 .result ≡ single (compositeSeen (a .l) v) = c .before .run-of2 .ensures ∙ ap (λ m. single (markedAs (m .composite) v)) (c .before .before .before .marks .ensures) in
+    let p : c .before .before .run-of .result ≡ single (lossSeen (a .l) v) = loss-run (a .l) v (c .before .before .run-of .ensures) (c .before .before .before .marks .ensures) in
+    let q : c .before .run-of2 .result ≡ single (compositeSeen (a .l) v) = composite-run (a .l) v (c .before .run-of2 .ensures) (c .before .before .before .marks .ensures) in
     rw (c .go-on .ensures, p, q) (sym (from-second (a .l) (a .first) (a .s .now) v some (sym (c .before .before .before .before .before .before .before .before .before .read-at .ensures) ∙ c .before .before .before .before .before .before .before .v .given .1) (c .before .before .before .before .if2 .left)))
 
 pub gather-spec : {M : Type 1} → statement M
