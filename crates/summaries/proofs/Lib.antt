@@ -4,6 +4,7 @@ pub mod Gathering
 pub mod InField
 pub mod Joins
 pub mod Judging
+pub mod Made
 pub mod Placing
 pub mod RoundTrip
 pub mod Validity

@@ -1,0 +1,90 @@
+-- A stretch cut anywhere: the summary of all its intervals is the join of those of its two parts, on values and so in bytes; and a summary made of valid
+-- intervals meets every rule, so that its bytes read back.
+-- Assumes nothing.
+use mathlib.Core.Path.{_≡_, refl, ap, sym, _∙_}
+use mathlib.Core.Bool.{Bool, true, cond}
+use mathlib.Core.List.{List, [], _∷_, _++_, map, map-append}
+use Prim.Native.Nat.{ℕ, suc, _+_, _-_, _≤_}
+use native.Mathlib.Nat.{add-assoc}
+use native.Mathlib.Omega.{arith}
+use lib.ListN.{length, length-append, length-map}
+use Rattle.records.specs.Limits.{intervals}
+use Rattle.records.specs.Settings.{labelMeets}
+use Rattle.records.specs.declared.interval.Interval.{Interval}
+use Rattle.records.specs.declared.settings.LabelSettings.{LabelSettings}
+use Rattle.records.proofs.IntervalRecord.{IntervalValid}
+use Rattle.labels.specs.Marked.{lossMark, compositeMark}
+use Rattle.runs.specs.Sound.{AllSound}
+use Rattle.rules.specs.Marking.{markedAs}
+use Rattle.rules.proofs.Marking.{marked-sound}
+use Rattle.tracks.specs.Tracks.{summary}
+use Rattle.tracks.specs.Tally.{serving}
+use Rattle.tracks.proofs.Joining.{summary-append}
+use Rattle.tracks.proofs.Keeping.{made-valid}
+use Rattle.tracks.proofs.Serving.{count-summary}
+use Rattle.summaries.specs.Joining.{joinedOf}
+use Rattle.summaries.specs.Making.{madeOf, lossSeen, compositeSeen}
+use Rattle.summaries.specs.Stored.{summaryOf, summaryBytes}
+use Rattle.summaries.specs.declared.stored.SummaryRead.{SummaryRead}
+use Rattle.summaries.proofs.RoundTrip.{read-write}
+use Rattle.summaries.proofs.Validity.{SummaryValid}
+
+pub join-made :
+    (l : LabelSettings) (first : ℕ) (xs ys : List Interval) → madeOf l first (xs ++ ys) ≡ joinedOf (madeOf l first xs) (madeOf l (first + length xs) ys)
+unfolding madeOf joinedOf
+join-made l first xs ys =
+    λ i.
+    record {
+      first = first;
+      after = (ap (λ k. first + k) (length-append xs ys) ∙ sym (add-assoc first (length xs) (length ys))) i;
+      label = l;
+      loss =
+          (ap (summary (l .n) (l .p)) (map-append (lossSeen l) xs ys) ∙ summary-append (l .n) (l .p) (map (lossSeen l) xs) (map (lossSeen l) ys)) i;
+      composite =
+          (ap (summary (l .n) (l .p)) (map-append (compositeSeen l) xs ys) ∙ summary-append (l .n) (l .p) (map (compositeSeen l) xs) (map (compositeSeen l) ys)) i;
+    }
+
+-- so the bytes of the uncut stretch are those of its parts, joined
+pub join-made-bytes :
+    (l : LabelSettings) (first : ℕ) (xs ys : List Interval) →
+    summaryBytes (madeOf l first (xs ++ ys)) ≡ summaryBytes (joinedOf (madeOf l first xs) (madeOf l (first + length xs) ys))
+join-made-bytes l first xs ys = ap summaryBytes (join-made l first xs ys)
+
+-- a summary of valid intervals is valid
+
+pub AllValid : List Interval → Type 0
+AllValid [] = Unit {0}
+AllValid (v ∷ vs) = IntervalValid v × AllValid vs
+
+all-sound : (f : Interval → Bool) (vs : List Interval) → AllValid vs → AllSound (map (λ v. markedAs (f v) v) vs)
+unfolding AllValid AllSound
+all-sound f [] h = tt
+all-sound f (v ∷ vs) h = (marked-sound (f v) v (h .0), all-sound f vs (h .1))
+
+-- maintenance is the same on both tracks
+serving-same : (f g : Interval → Bool) (vs : List Interval) → serving (map (λ v. markedAs (f v) v) vs) ≡ serving (map (λ v. markedAs (g v) v) vs)
+unfolding serving markedAs
+serving-same f g [] = refl
+serving-same f g (v ∷ vs) = ap (λ k. cond (v .maintenance) k (suc k)) (serving-same f g vs)
+
+pub made-summary-valid :
+    (l : LabelSettings) (first : ℕ) (vs : List Interval) → labelMeets l ≡ true → AllValid vs → first + length vs ≤ intervals → SummaryValid (madeOf l first vs)
+unfolding madeOf
+made-summary-valid l first vs settings valid room =
+    let e : first + length vs - first ≡ length vs = omega arith in
+    record {
+      ordered = omega arith;
+      within = room;
+      settings = settings;
+      loss =
+          rw (e, sym (length-map vs (lossSeen l))) (made-valid (l .n) (l .p) (map (lossSeen l) vs) (all-sound (lossMark l) vs valid));
+      composite =
+          rw (e, sym (length-map vs (compositeSeen l))) (made-valid (l .n) (l .p) (map (compositeSeen l) vs) (all-sound (compositeMark l) vs valid));
+      counts =
+          count-summary (l .n) (l .p) (map (lossSeen l) vs) ∙ serving-same (lossMark l) (compositeMark l) vs ∙ sym (count-summary (l .n) (l .p) (map (compositeSeen l) vs));
+    }
+
+pub made-reads-back :
+    (l : LabelSettings) (first : ℕ) (vs : List Interval) →
+    labelMeets l ≡ true → AllValid vs → first + length vs ≤ intervals → summaryOf (summaryBytes (madeOf l first vs)) ≡ SummaryRead.Valid (madeOf l first vs)
+made-reads-back l first vs settings valid room = read-write (madeOf l first vs) (made-summary-valid l first vs settings valid room)
