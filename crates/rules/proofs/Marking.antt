@@ -7,7 +7,7 @@ use native.Mathlib.Omega.{arith}
 use Rattle.records.specs.declared.interval.Interval.{Interval}
 use Rattle.records.proofs.IntervalRecord.{IntervalValid}
 use Rattle.runs.specs.Sound.{Sound}
-use Rattle.rules.specs.Marking.{markedAs}
+use Rattle.tallies.specs.Seen.{markedAs}
 
 pub marked-sound : (b : Bool) (v : Interval) → IntervalValid v → Sound (markedAs b v)
 unfolding markedAs

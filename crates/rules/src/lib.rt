@@ -8,15 +8,15 @@ use runs::figures::Load;
 use runs::middles::Label;
 use runs::middles::Middle;
 use runs::run::Edges;
-use runs::run::Marked;
 use runs::run::Run;
+use tallies::Marked;
 use tracks::Track;
 ghost use mathlib.Core.Path.{_≡_};
 ghost use mathlib.Core.Bool.{cond};
 ghost use Prim.Native.Nat.{_-_, _*_, _≤_};
 ghost use Rattle.runs.specs.Runs.{one};
 ghost use Rattle.tracks.specs.Valid.{busy};
-ghost use Rattle.rules.specs.Marking.{markedAs};
+ghost use Rattle.tallies.specs.Seen.{markedAs};
 ghost use Rattle.rules.specs.Meets.{loadMeets, figuresMeet, highMeets, lowMeets, runMeets, idleLoad, noFigures, labelMeets, middleMeets, endsMeet, manyMeets, trackMeets};
 
 // The difference, 0 where it would fall below.

@@ -6,7 +6,7 @@ use lib.Dec.{eqb}
 use Rattle.records.specs.Limits.{largestDelay}
 use Rattle.runs.specs.declared.figures.Load.{Load}
 use Rattle.runs.specs.declared.figures.Figures.{Figures}
-use Rattle.runs.specs.declared.figures.Totals.{Totals}
+use Rattle.tallies.specs.declared.Totals.{Totals}
 
 -- the load of no interval
 unfoldable pub idle : Load

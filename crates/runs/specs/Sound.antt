@@ -3,7 +3,7 @@ use mathlib.Core.Path.{_≡_}
 use mathlib.Core.List.{List, [], _∷_}
 use Prim.Native.Nat.{_-_, _*_, _≤_}
 use Rattle.records.specs.Limits.{frames, largestDelay}
-use Rattle.runs.specs.declared.run.Marked.{Marked}
+use Rattle.tallies.specs.declared.Marked.{Marked}
 
 pub record Sound (x : Marked) : Type 0 where
   pub few : x .sent ≤ frames

@@ -1,5 +1,6 @@
 // Figures of intervals, and how they add up.
 use records::limits::LARGEST_DELAY;
+use tallies::Totals;
 ghost use mathlib.Core.Path.{_≡_};
 ghost use Prim.Native.Nat.{_-_, max};
 ghost use Rattle.runs.specs.Figures.{idle, both, none, plus, reported};
@@ -20,18 +21,6 @@ pub struct Figures {
     pub load: Load,
     pub high: u32,
     pub runs: u32,
-}
-
-// Figures as they are reported: with the least delay, 0 where nothing was delivered.
-pub struct Totals {
-    pub count: u32,
-    pub high: u32,
-    pub runs: u32,
-    pub sent: u64,
-    pub lost: u64,
-    pub sum: u64,
-    pub least: u32,
-    pub most: u32,
 }
 
 fn greater(a: u32, b: u32) -> u32

@@ -3,22 +3,12 @@ use crate::figures;
 use crate::figures::Figures;
 use crate::figures::Load;
 use records::limits::LARGEST_DELAY;
+use tallies::Marked;
 ghost use mathlib.Core.Path.{_≡_};
 ghost use mathlib.Core.Bool.{cond};
 ghost use Prim.Native.Nat.{_+_, _<_, _≤_};
 ghost use Rattle.runs.specs.Runs.{long, one, tie, closed, headroomOf, loadOf, single, glue, same, figuresOf, quietRun};
 ghost use Rattle.runs.specs.Valid.{spanOf, RunsFit};
-
-// An interval as one track sees it: its mark (true is high), whether it is in maintenance, and its sums.
-pub struct Marked {
-    pub mark: bool,
-    pub maintenance: bool,
-    pub sent: u32,
-    pub lost: u32,
-    pub sum: u64,
-    pub least: u32,
-    pub most: u32,
-}
 
 // Where maintenance splits the counted intervals of a run of high marks. Solid: nowhere, and all of them count. Split: how many touch
 // the left end, how many stretches of length p or more touch neither end, and how many touch the right end.

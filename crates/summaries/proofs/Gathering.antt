@@ -27,7 +27,7 @@ use Rattle.runs.specs.declared.run.Run.{Run}
 use Rattle.runs.specs.Runs.{single, glue, same}
 use Rattle.runs.specs.Valid.{RunValid, RunsFit}
 use Rattle.runs.proofs.Keeping.{single-valid}
-use Rattle.rules.specs.Marking.{markedAs}
+use Rattle.tallies.specs.Seen.{markedAs, lossSeen, compositeSeen}
 use Rattle.rules.proofs.Marking.{marked-sound}
 use Rattle.tracks.specs.declared.Front.{Front}
 use Rattle.tracks.specs.declared.Front.the-variants.{Alone, After}
@@ -38,7 +38,7 @@ use Rattle.tracks.specs.Valid.{TrackValid, PushFits, TurnFits}
 use Rattle.tracks.proofs.Fitting.{push-one, push-glues}
 use Rattle.tracks.proofs.Joining.{push-last}
 use Rattle.tracks.proofs.Keeping.{push-valid}
-use Rattle.summaries.specs.Making.{lossSeen, compositeSeen, madeOf, goodIf, gathered, madeWith, onwards}
+use Rattle.summaries.specs.Making.{madeOf, goodIf, gathered, madeWith, onwards}
 use Rattle.summaries.specs.declared.making.Gathered.{Gathered}
 
 -- an interval more behind the tracks

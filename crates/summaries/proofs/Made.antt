@@ -15,15 +15,15 @@ use Rattle.records.specs.declared.settings.LabelSettings.{LabelSettings}
 use Rattle.records.proofs.IntervalRecord.{IntervalValid}
 use Rattle.labels.specs.Marked.{lossMark, compositeMark}
 use Rattle.runs.specs.Sound.{AllSound}
-use Rattle.rules.specs.Marking.{markedAs}
+use Rattle.tallies.specs.Seen.{markedAs, lossSeen, compositeSeen}
 use Rattle.rules.proofs.Marking.{marked-sound}
 use Rattle.tracks.specs.Tracks.{summary}
-use Rattle.tracks.specs.Tally.{serving}
+use Rattle.tallies.specs.Tally.{serving}
 use Rattle.tracks.proofs.Joining.{summary-append}
 use Rattle.tracks.proofs.Keeping.{made-valid}
 use Rattle.tracks.proofs.Serving.{count-summary}
 use Rattle.summaries.specs.Joining.{joinedOf}
-use Rattle.summaries.specs.Making.{madeOf, lossSeen, compositeSeen}
+use Rattle.summaries.specs.Making.{madeOf}
 use Rattle.summaries.specs.Stored.{summaryOf, summaryBytes}
 use Rattle.summaries.specs.declared.stored.SummaryRead.{SummaryRead}
 use Rattle.summaries.proofs.RoundTrip.{read-write}

@@ -19,25 +19,16 @@ use Rattle.records.specs.declared.many.Counted.{Counted}
 use Rattle.records.specs.declared.refusal.Fault.{Fault}
 use Rattle.records.specs.declared.settings.LabelSettings.{LabelSettings}
 use Rattle.records.specs.declared.settings.SettingsRead.{SettingsRead}
-use Rattle.labels.specs.Marked.{lossMark, compositeMark}
 use Rattle.labels.specs.Stretch.{intervalsOf}
-use Rattle.runs.specs.declared.run.Marked.{Marked}
 use Rattle.runs.specs.declared.run.Run.{Run}
 use Rattle.runs.specs.Valid.{RunValid}
-use Rattle.rules.specs.Marking.{markedAs}
+use Rattle.tallies.specs.Seen.{lossSeen, compositeSeen}
 use Rattle.tracks.specs.declared.Track.{Track}
 use Rattle.tracks.specs.Tracks.{pushAll, summary}
 use Rattle.summaries.specs.Stored.{summaryBytes}
 use Rattle.summaries.specs.declared.stored.Summary.{Summary}
 use Rattle.summaries.specs.declared.making.Gathered.{Gathered}
 use Rattle.summaries.specs.declared.making.Made.{Made}
-
--- an interval as the loss track sees it, and as the composite track does
-abbrev pub lossSeen : LabelSettings → Interval → Marked
-lossSeen l v = markedAs (lossMark l v) v
-
-abbrev pub compositeSeen : LabelSettings → Interval → Marked
-compositeSeen l v = markedAs (compositeMark l v) v
 
 -- the summary of the intervals vs, the first of which has the number `first`
 unfoldable pub madeOf : LabelSettings → ℕ → List Interval → Summary

@@ -26,7 +26,7 @@ ghost use Rattle.records.specs.Limits.{intervals};
 ghost use Rattle.records.specs.Refusals.{refusal};
 ghost use Rattle.records.specs.Sequence.{readsFrom};
 ghost use Rattle.records.specs.Settings.{labelMeets};
-ghost use Rattle.rules.specs.Marking.{markedAs};
+ghost use Rattle.tallies.specs.Seen.{markedAs};
 ghost use Rattle.runs.specs.Runs.{single, glue, same};
 ghost use Rattle.runs.specs.Valid.{RunsFit};
 ghost use Rattle.summaries.specs.Making.{gathered, onwards, Begun, Outcome};

@@ -20,7 +20,7 @@ use Rattle.tracks.specs.declared.Track.the-variants.{Nothing, One, Many}
 use Rattle.tracks.specs.declared.Outcome.{Outcome}
 use Rattle.tracks.specs.Tracks.{start, decided, outcome, finish, sorted, tallied, whole, countBetween, countIn}
 use Rattle.tracks.specs.Valid.{TrackValid}
-use Rattle.tracks.specs.Bounds.{Bounded, TallyBounded}
+use Rattle.tallies.specs.Bounds.{Bounded, TallyBounded}
 use Rattle.tracks.proofs.Fitting.{start-fits, begun-fits}
 use Rattle.tracks.proofs.Serving.{count-shut, count-times, count-valid}
 

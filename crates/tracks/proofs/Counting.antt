@@ -10,7 +10,7 @@ use lib.Dec.{leb, eqb·suc-zero, leb·zero, leb·suc-zero, leb·suc-suc}
 use Rattle.runs.specs.declared.run.Edges.{Edges}
 use Rattle.runs.specs.declared.run.Edges.the-variants.{Solid, Split}
 use Rattle.runs.specs.Runs.{long, one, tie, closed, edge}
-use Rattle.tracks.specs.Tally.{number, firstAll, begun, runsOf}
+use Rattle.tallies.specs.Tally.{number, firstAll, begun, runsOf}
 use Rattle.runs.proofs.Tying.{tie-assoc, solid-tie, long-zero}
 
 -- the edges of a stretch, from whether each interval is high and counts

@@ -12,8 +12,8 @@ use Rattle.rule.specs.Labels.{Marks, before, lab, Begins, Label, settled, undec
 use Rattle.rule.proofs.Windows.{Agreeing, stays, turns, not-not}
 use Rattle.rule.proofs.Continuing.{begins-forever}
 use Rattle.rule.proofs.Labelling.{meaning-one}
-use Rattle.runs.specs.declared.run.Marked.{Marked}
-use Rattle.tracks.specs.Tally.{Labels, marks}
+use Rattle.tallies.specs.declared.Marked.{Marked}
+use Rattle.tallies.specs.Tally.{Labels, marks}
 use Rattle.tracks.proofs.Spanning.{AllMarked, Uniform, uniform-by}
 
 pub beq-yes : (a b : Bool) → Bool·beq a b ≡ true → a ≡ b

@@ -10,7 +10,7 @@ use lib.Dec.{leb}
 use lib.ListN.{length}
 use borrow.Author.Tests.{leb-true}
 use Rattle.rule.proofs.Windows.{not-not}
-use Rattle.runs.specs.declared.run.Marked.{Marked}
+use Rattle.tallies.specs.declared.Marked.{Marked}
 use Rattle.runs.specs.declared.figures.Figures.{Figures}
 use Rattle.runs.specs.declared.run.Edges.{Edges}
 use Rattle.runs.specs.declared.run.Edges.the-variants.{Solid, Split}

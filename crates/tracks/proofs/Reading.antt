@@ -12,11 +12,11 @@ use lib.ListN.{length, length-map}
 use borrow.Author.Tests.{ltb-true, ltb-false, eq-eqb, ne-eqb}
 use Rattle.rule.specs.Labels.{Label, settled, undecided}
 use Rattle.records.specs.Limits.{largestDelay}
-use Rattle.runs.specs.declared.run.Marked.{Marked}
+use Rattle.tallies.specs.declared.Marked.{Marked}
 use Rattle.runs.specs.Figures.{idle, both, reported}
 use Rattle.runs.specs.Runs.{gross, maintained}
 use Rattle.runs.specs.Sound.{Sound, AllSound}
-use Rattle.tracks.specs.Tally.{counts, those, highs, total, delivering, smallest, greatest, totalled, tally, Labels, marks}
+use Rattle.tallies.specs.Tally.{counts, those, highs, total, delivering, smallest, greatest, totalled, tally, Labels, marks}
 use Rattle.tracks.specs.Tracks.{tallied, whole, summary, join, quiet}
 use Rattle.runs.proofs.Keeping.{headroom-heard, headroom-silent}
 use Rattle.tracks.proofs.Joining.{summary-append, quiet-summary}

@@ -7,7 +7,7 @@ use Prim.Native.Nat.{ℕ, suc, _+_, _≤_}
 use native.Mathlib.Omega.{arith}
 use native.Mathlib.Nat.{add-zero, zero-add}
 use Rattle.runs.specs.declared.figures.Figures.{Figures}
-use Rattle.runs.specs.declared.run.Marked.{Marked}
+use Rattle.tallies.specs.declared.Marked.{Marked}
 use Rattle.runs.specs.declared.run.Run.{Run}
 use Rattle.runs.specs.declared.middles.Label.{Label}
 use Rattle.runs.specs.declared.middles.Label.the-variants.{Inherits, Says}
@@ -18,7 +18,7 @@ use Rattle.runs.specs.Middles.{unit, placed, verdict, shut, timesBy, times}
 use Rattle.tracks.specs.declared.Track.{Track}
 use Rattle.tracks.specs.declared.Track.the-variants.{Nothing, One, Many}
 use Rattle.tracks.specs.Tracks.{push, graft, join, pushAll, summary, countBetween, countIn}
-use Rattle.tracks.specs.Tally.{serving}
+use Rattle.tallies.specs.Tally.{serving}
 use Rattle.tracks.specs.Valid.{TrackValid}
 use Rattle.tracks.proofs.Joining.{Holds, push-holds}
 

@@ -8,13 +8,13 @@ use native.Mathlib.Omega.{arith}
 use native.Mathlib.Nat.{add-zero, zero-add, add-suc, suc-add}
 use lib.ListN.{length, length-append}
 use Rattle.rule.specs.Labels.{Label}
-use Rattle.runs.specs.declared.run.Marked.{Marked}
+use Rattle.tallies.specs.declared.Marked.{Marked}
 use Rattle.runs.specs.declared.figures.Load.{Load}
 use Rattle.runs.specs.declared.figures.Figures.{Figures}
 use Rattle.runs.specs.declared.run.Run.{Run}
 use Rattle.runs.specs.Figures.{idle, both, none, plus}
 use Rattle.runs.specs.Runs.{gross, loadOf, single, glue, figuresOf}
-use Rattle.tracks.specs.Tally.{is, counts, those, highs, number, runsOf}
+use Rattle.tallies.specs.Tally.{is, counts, those, highs, number, runsOf}
 use Rattle.runs.proofs.Adding.{both-assoc, both-idle, idle-both}
 use Rattle.runs.proofs.Tying.{tie-solid}
 use Rattle.tracks.proofs.Counting.{ties, ties-append, runs-closed, runs-cut, runs-after, runs-none, NoneOf, number-append, number-none}

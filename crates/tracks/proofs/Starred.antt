@@ -7,14 +7,14 @@ use Prim.Native.Nat.{ℕ}
 use native.Mathlib.Omega.{arith}
 use Rattle.rule.specs.Labels.{Label}
 use Rattle.records.specs.Limits.{frames, largestDelay}
-use Rattle.runs.specs.declared.run.Marked.{Marked}
+use Rattle.tallies.specs.declared.Marked.{Marked}
 use Rattle.runs.specs.Figures.{idle, both, none, plus, reported}
 use Rattle.runs.specs.Runs.{long, tie, closed, headroomOf, gross, loadOf, single, glue, same, figuresOf, maintained}
 use Rattle.runs.specs.Middles.{unit, placed, verdict, shut, over, timesBy, times}
 use Rattle.runs.specs.Sound.{Sound, AllSound}
-use Rattle.tracks.specs.declared.Tally.{Tally}
+use Rattle.tallies.specs.declared.Tally.{Tally}
 use Rattle.tracks.specs.Tracks.{push, graft, join, pushAll, summary, start, decided, finish, sorted, tallied, whole}
-use Rattle.tracks.specs.Tally.{tally, Labels, marks}
+use Rattle.tallies.specs.Tally.{tally, Labels, marks}
 use Rattle.tracks.proofs.Reading.{whole-tally}
 use Rattle.tracks.proofs.Joining.{summary-append}
 

@@ -12,7 +12,7 @@ use lib.ListN.{length, length-append, length-map}
 use borrow.Author.Tests.{leb-true, leb-false}
 use Rattle.rule.specs.Labels.{settled, undecided}
 use Rattle.rule.specs.Labels as labels
-use Rattle.runs.specs.declared.run.Marked.{Marked}
+use Rattle.tallies.specs.declared.Marked.{Marked}
 use Rattle.runs.specs.declared.figures.Figures.{Figures}
 use Rattle.runs.specs.declared.run.Run.{Run}
 use Rattle.runs.specs.declared.middles.Label.{Label}
@@ -24,7 +24,7 @@ use Rattle.runs.specs.Figures.{none, plus, both, idle}
 use Rattle.runs.specs.Runs.{single, glue, same, figuresOf}
 use Rattle.runs.specs.Middles.{unit, placed, verdict, shut, times, timesBy, over}
 use Rattle.tracks.specs.Tracks.{push, pushAll, summary, start, decided, outcome, finish, sorted}
-use Rattle.tracks.specs.Tally.{is, those, highs, number, Labels, marks}
+use Rattle.tallies.specs.Tally.{is, those, highs, number, Labels, marks}
 use Rattle.runs.proofs.Adding.{plus-assoc, plus-none, none-plus}
 use Rattle.runs.proofs.Placing.{times-unit, times-assoc}
 use Rattle.tracks.proofs.Counting.{NoneOf, runs-none}

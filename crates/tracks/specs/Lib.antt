@@ -1,4 +1,2 @@
 pub mod Tracks
-pub mod Tally
 pub mod Valid
-pub mod Bounds

@@ -3,7 +3,7 @@ use mathlib.Core.Bool.{Bool, false, cond, _||_, Bool·beq}
 use mathlib.Core.List.{List, [], _∷_}
 use Prim.Native.Nat.{ℕ, _+_}
 use lib.Dec.{leb}
-use Rattle.runs.specs.declared.run.Marked.{Marked}
+use Rattle.tallies.specs.declared.Marked.{Marked}
 use Rattle.runs.specs.declared.figures.Figures.{Figures}
 use Rattle.runs.specs.declared.run.Run.{Run}
 use Rattle.runs.specs.declared.middles.Label.{Label}
@@ -14,7 +14,7 @@ use Rattle.tracks.specs.declared.Front.the-variants.{Alone, After}
 use Rattle.tracks.specs.declared.Track.{Track}
 use Rattle.tracks.specs.declared.Track.the-variants.{Nothing, One, Many}
 use Rattle.tracks.specs.declared.Outcome.{Outcome}
-use Rattle.tracks.specs.declared.Tally.{Tally}
+use Rattle.tallies.specs.declared.Tally.{Tally}
 use Rattle.runs.specs.Figures.{none, reported}
 use Rattle.runs.specs.Runs.{figuresOf, single, glue, same, quietRun}
 use Rattle.runs.specs.Middles.{unit, placed, shut, times, quietMiddle}

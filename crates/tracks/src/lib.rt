@@ -1,12 +1,12 @@
 // Tracks of a stretch: grown run by run, joined, put in maintenance, and the whole of a known sequence.
 use runs::figures;
 use runs::figures::Figures;
-use runs::figures::Totals;
 use runs::middles;
 use runs::middles::Label;
 use runs::middles::Middle;
 use runs::run;
 use runs::run::Run;
+use tallies::Tally;
 ghost use mathlib.Core.Path.{_≡_};
 ghost use Prim.Native.Nat.{_<_};
 ghost use Rattle.tracks.specs.Tracks.{push, withLast, turned, graft, join, quiet, start, decided, finish, sorted, tallied, whole, countIn};
@@ -32,13 +32,6 @@ pub struct Outcome {
     pub available: Figures,
     pub unavailable: u32,
     pub undecided: Figures,
-}
-
-// An outcome as it is reported.
-pub struct Tally {
-    pub available: Totals,
-    pub unavailable: u32,
-    pub undecided: Totals,
 }
 
 // A run behind a track. While the mark stays, only the last run changes.

@@ -1,6 +1,6 @@
 -- `rules::marked` meets its contract: each field is the record's.
 use mathlib.Core.Path.{refl}
-use Rattle.rules.specs.Marking.{markedAs}
+use Rattle.tallies.specs.Seen.{markedAs}
 use Rattle.rules.proofs.marked.Statement.{statement}
 use Rattle.rules.proofs.marked.Tie as tie
 

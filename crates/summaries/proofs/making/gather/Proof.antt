@@ -7,7 +7,7 @@ use lib.ListN.{length}
 use Rattle.records.proofs.IntervalRecord.{interval-valid}
 use Rattle.runs.specs.Runs.{single}
 use Rattle.tracks.specs.declared.Track.the-variants.{Nothing}
-use Rattle.summaries.specs.Making.{lossSeen, compositeSeen}
+use Rattle.tallies.specs.Seen.{lossSeen, compositeSeen}
 use Rattle.summaries.proofs.Gathering.{loss-run, composite-run, from-first, from-second, on-done, on-invalid, on-disordered, seen-valid, seen-one}
 use borrow.Author.Needs.{needs}
 use Rattle.summaries.proofs.making.gather.Statement.{statement}

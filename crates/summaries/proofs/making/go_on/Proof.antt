@@ -18,7 +18,8 @@ use Rattle.tracks.specs.declared.Front.{Front}
 use Rattle.tracks.specs.declared.Track.the-variants.{One}
 use Rattle.tracks.specs.Tracks.{push, withLast, turned}
 use Rattle.tracks.specs.Valid.{TrackValid}
-use Rattle.summaries.specs.Making.{lossSeen, compositeSeen, onwards}
+use Rattle.tallies.specs.Seen.{lossSeen, compositeSeen}
+use Rattle.summaries.specs.Making.{onwards}
 use Rattle.summaries.proofs.Gathering.{loss-run, composite-run, on-done, on-invalid, on-disordered, on-next, front-turned, front-kept, grown-to, turn-fits, glue-fits, grown-valid}
 use Rattle.summaries.proofs.making.go_on.Statement.{statement}
 use Rattle.summaries.proofs.making.go_on.Tie as tie

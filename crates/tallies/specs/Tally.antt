@@ -5,9 +5,9 @@ use Prim.Native.Nat.{ℕ, zero, suc, _+_, _<_, min, max}
 use lib.Dec.{ltb}
 use lib.ListN.{length}
 use Rattle.rule.specs.Labels.{Label, settled, undecided, Meaning}
-use Rattle.runs.specs.declared.run.Marked.{Marked}
-use Rattle.runs.specs.declared.figures.Totals.{Totals}
-use Rattle.tracks.specs.declared.Tally.{Tally}
+use Rattle.tallies.specs.declared.Marked.{Marked}
+use Rattle.tallies.specs.declared.Totals.{Totals}
+use Rattle.tallies.specs.declared.Tally.{Tally}
 
 -- the two labels are one
 unfoldable pub is : Label → Label → Bool

@@ -2,9 +2,10 @@
 -- than there is.
 use mathlib.Core.Path.{_≡_}
 use Prim.Native.Nat.{ℕ, _+_, _-_, _*_, _≤_}
-use Rattle.records.specs.Limits.{frames, largestDelay}
-use Rattle.runs.specs.declared.figures.Totals.{Totals}
-use Rattle.tracks.specs.declared.Tally.{Tally}
+use Rattle.records.specs.Limits.{frames, largestDelay, intervals}
+use Rattle.tallies.specs.declared.Totals.{Totals}
+use Rattle.tallies.specs.declared.Tally.{Tally}
+use Rattle.tallies.specs.declared.Period.{Period}
 
 pub record Bounded (p : ℕ) (t : Totals) : Type 0 where
   pub high : t .high ≤ t .count
@@ -23,3 +24,9 @@ pub record TallyBounded (p len : ℕ) (t : Tally) : Type 0 where
   pub available : Bounded p (t .available)
   pub undecided : Bounded p (t .undecided)
   pub counted : t .available .count + t .unavailable + t .undecided .count ≤ len
+
+-- of a report
+pub record PeriodBounded (p : ℕ) (r : Period) : Type 0 where
+  pub long : r .length ≤ intervals
+  pub loss : TallyBounded p (r .length) (r .loss)
+  pub counted : r .composite .available + r .composite .unavailable + r .composite .undecided ≤ r .length

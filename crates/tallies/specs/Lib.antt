@@ -1,0 +1,4 @@
+pub mod Seen
+pub mod Tally
+pub mod Report
+pub mod Bounds
