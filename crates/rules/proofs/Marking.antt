@@ -2,12 +2,14 @@
 -- Assumes nothing.
 use mathlib.Core.Path.{_≡_}
 use mathlib.Core.Bool.{Bool}
+use mathlib.Core.List.{List, [], _∷_, map}
 use Prim.Native.Nat.{_-_}
 use native.Mathlib.Omega.{arith}
 use Rattle.records.specs.declared.interval.Interval.{Interval}
 use Rattle.records.proofs.IntervalRecord.{IntervalValid}
-use Rattle.runs.specs.Sound.{Sound}
+use Rattle.runs.specs.Sound.{Sound, AllSound}
 use Rattle.tallies.specs.Seen.{markedAs}
+use Rattle.tallies.proofs.Valid.{AllValid}
 
 pub marked-sound : (b : Bool) (v : Interval) → IntervalValid v → Sound (markedAs b v)
 unfolding markedAs
@@ -21,3 +23,8 @@ marked-sound b v f =
       from = f .low-fact;
       to = f .high-fact;
     }
+
+pub all-sound : (f : Interval → Bool) (vs : List Interval) → AllValid vs → AllSound (map (λ v. markedAs (f v) v) vs)
+unfolding AllValid AllSound
+all-sound f [] h = tt
+all-sound f (v ∷ vs) h = (marked-sound (f v) v (h .0), all-sound f vs (h .1))

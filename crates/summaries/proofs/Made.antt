@@ -12,11 +12,10 @@ use Rattle.records.specs.Limits.{intervals}
 use Rattle.records.specs.Settings.{labelMeets}
 use Rattle.records.specs.declared.interval.Interval.{Interval}
 use Rattle.records.specs.declared.settings.LabelSettings.{LabelSettings}
-use Rattle.records.proofs.IntervalRecord.{IntervalValid}
 use Rattle.labels.specs.Marked.{lossMark, compositeMark}
-use Rattle.runs.specs.Sound.{AllSound}
 use Rattle.tallies.specs.Seen.{markedAs, lossSeen, compositeSeen}
-use Rattle.rules.proofs.Marking.{marked-sound}
+use Rattle.tallies.proofs.Valid.{AllValid}
+use Rattle.rules.proofs.Marking.{all-sound}
 use Rattle.tracks.specs.Tracks.{summary}
 use Rattle.tallies.specs.Tally.{serving}
 use Rattle.tracks.proofs.Joining.{summary-append}
@@ -50,23 +49,13 @@ pub join-made-bytes :
     summaryBytes (madeOf l first (xs ++ ys)) ≡ summaryBytes (joinedOf (madeOf l first xs) (madeOf l (first + length xs) ys))
 join-made-bytes l first xs ys = ap summaryBytes (join-made l first xs ys)
 
--- a summary of valid intervals is valid
-
-pub AllValid : List Interval → Type 0
-AllValid [] = Unit {0}
-AllValid (v ∷ vs) = IntervalValid v × AllValid vs
-
-all-sound : (f : Interval → Bool) (vs : List Interval) → AllValid vs → AllSound (map (λ v. markedAs (f v) v) vs)
-unfolding AllValid AllSound
-all-sound f [] h = tt
-all-sound f (v ∷ vs) h = (marked-sound (f v) v (h .0), all-sound f vs (h .1))
-
 -- maintenance is the same on both tracks
 serving-same : (f g : Interval → Bool) (vs : List Interval) → serving (map (λ v. markedAs (f v) v) vs) ≡ serving (map (λ v. markedAs (g v) v) vs)
 unfolding serving markedAs
 serving-same f g [] = refl
 serving-same f g (v ∷ vs) = ap (λ k. cond (v .maintenance) k (suc k)) (serving-same f g vs)
 
+-- a summary of valid intervals is valid
 pub made-summary-valid :
     (l : LabelSettings) (first : ℕ) (vs : List Interval) → labelMeets l ≡ true → AllValid vs → first + length vs ≤ intervals → SummaryValid (madeOf l first vs)
 unfolding madeOf

@@ -13,11 +13,11 @@ use Rattle.runs.specs.declared.middles.Label.{Label}
 use Rattle.runs.specs.declared.middles.Label.the-variants.{Inherits, Says}
 use Rattle.runs.specs.declared.middles.Middle.{Middle}
 use Rattle.runs.specs.Figures.{idle, both, none, plus}
-use Rattle.runs.specs.Runs.{gross, loadOf, single, glue, same, figuresOf}
-use Rattle.runs.specs.Middles.{unit, placed, verdict, shut, timesBy, times}
+use Rattle.runs.specs.Runs.{gross, loadOf, single, glue, same, figuresOf, quietRun}
+use Rattle.runs.specs.Middles.{unit, placed, verdict, shut, timesBy, times, quietMiddle}
 use Rattle.tracks.specs.declared.Track.{Track}
 use Rattle.tracks.specs.declared.Track.the-variants.{Nothing, One, Many}
-use Rattle.tracks.specs.Tracks.{push, graft, join, pushAll, summary, countBetween, countIn}
+use Rattle.tracks.specs.Tracks.{push, graft, join, pushAll, summary, quiet, countBetween, countIn}
 use Rattle.tallies.specs.Tally.{serving}
 use Rattle.tracks.specs.Valid.{TrackValid}
 use Rattle.tracks.proofs.Joining.{Holds, push-holds}
@@ -113,3 +113,10 @@ module _ (n p : ℕ) where
   count-valid i Nothing v = omega arith
   count-valid i (One r) v = omega (arith, v .0 .counted, v .1)
   count-valid i (Many l m t) v = omega (arith, v .first .counted, v .middle .figures .counted, v .last .counted, v .lengths)
+
+-- in maintenance as a whole, it counts none
+pub count-none : (a : Track) → countIn (quiet a) ≡ 0
+unfolding countIn countBetween quiet quietRun quietMiddle none idle
+count-none Nothing = refl
+count-none (One r) = refl
+count-none (Many l m t) = refl
