@@ -1,0 +1,5 @@
+-- The laws of this crate that belong to no one function.
+pub mod Judging
+pub mod Gathering
+pub mod Fitting
+pub mod Lines
