@@ -10,7 +10,6 @@ use Rattle.tallies.specs.declared.Period.{Period}
 use Rattle.tallies.specs.declared.Totals.{Totals}
 use Rattle.tallies.specs.Bounds.{Bounded, PeriodBounded}
 use Rattle.verdicts.specs.declared.Verdict.{Verdict}
-use Rattle.verdicts.specs.declared.Verdicts.{Verdicts}
 use Rattle.verdicts.specs.Verdicts.{judged, enough, lossMet, meanMet, verdictsOf}
 
 -- the rule for all six, by cases
