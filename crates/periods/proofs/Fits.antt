@@ -13,11 +13,10 @@ use Rattle.tracks.specs.Valid.{TrackValid, JoinFits, TrackFits}
 use Rattle.tracks.proofs.Keeping.{join-valid, quiet-valid}
 use Rattle.tracks.proofs.Serving.{count-valid}
 use Rattle.summaries.specs.Stored.{summaryOf}
-use Rattle.summaries.specs.declared.stored.Summary.{Summary}
 use Rattle.summaries.specs.declared.stored.SummaryRead.{SummaryRead}
 use Rattle.summaries.proofs.Validity.{SummaryValid, summary-valid}
 use Rattle.periods.specs.Between.{BetweenFits}
-use Rattle.periods.specs.Stretches.{heldIf, stretchOf, firstOf, afterOf, labelOf, Known, stretch-held, first-held, after-held, label-held}
+use Rattle.periods.specs.Stretches.{heldIf, stretchOf, Known, stretch-held, first-held, after-held, label-held}
 use Rattle.periods.specs.declared.Stretch.{Stretch}
 use Rattle.periods.specs.declared.StretchRead.{StretchRead}
 

@@ -1,5 +1,4 @@
 -- The middle one of three tracks: those at its sides count nothing, and give the labels all the same.
-use mathlib.Core.Path.{_≡_}
 use Prim.Native.Nat.{ℕ, _+_, _≤_}
 use Rattle.records.specs.Limits.{intervals}
 use Rattle.tallies.specs.declared.Tally.{Tally}

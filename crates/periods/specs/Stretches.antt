@@ -40,7 +40,7 @@ madeStretch l first vs = record { held = madeOf l first vs }
 pub madeBytes : LabelSettings → ℕ → List Interval → List ℕ
 madeBytes l first vs = summaryBytes (madeOf l first vs)
 
-abbrev countsOf : Tally → Counts
+abbrev pub countsOf : Tally → Counts
 countsOf t = record { available = t .available .count; unavailable = t .unavailable; undecided = t .undecided .count }
 
 -- the report of the middle one of three
