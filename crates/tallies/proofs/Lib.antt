@@ -1,1 +1,3 @@
 pub mod Valid
+pub mod Known
+pub mod Starred
