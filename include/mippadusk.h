@@ -97,6 +97,37 @@ uint64_t mip_step(uint64_t *evaluator, size_t evaluator_len,
                   const uint8_t *interval, size_t interval_len,
                   uint64_t *settled, size_t settled_len);
 
+/* The summary of a stretch of intervals: 1,024 bytes, whose layout and rules stand in docs/RECORDS.md. Its first two words, u32 and
+ * little-endian, are the stretch's first number and the number after its last; the label settings are the 24 bytes behind them.
+ *
+ * settings   a settings record, 64 bytes; its label settings are taken, and the summary depends on no other field
+ * first      the number of the first interval, at most 3,000,000
+ * intervals  interval records of 48 bytes each, numbered first, first + 1 and so on; with none, the summary is an empty one at `first`
+ * out, at    the summary is written into the 1,024 bytes of `out` from byte `at` on; the bytes before and behind stay as they are
+ *
+ * Refusals, in this order: MIP_SETTINGS; MIP_LENGTH where `intervals` is not a whole number of records; MIP_ROOM where `out` has fewer
+ * than 1,024 bytes from `at` on; MIP_FIELD where `first` is above 3,000,000; then record by record, at its place, MIP_FIELD where it
+ * breaks its own rules, MIP_ORDER where its number is not the next. */
+uint64_t mip_summary(const uint8_t *settings, size_t settings_len,
+                     uint64_t first,
+                     const uint8_t *intervals, size_t intervals_len,
+                     uint8_t *out, size_t out_len, size_t at);
+
+/* The summary of two adjoining stretches, from theirs. It is byte for byte the one that mip_summary makes of all the intervals at once,
+ * however a stretch was cut and in whatever order its parts are joined. An empty summary at either end changes nothing.
+ *
+ * left, right  summaries, 1,024 bytes each, made or joined under equal label settings; `right` begins where `left` ends
+ * out, at      the summary of both is written into the 1,024 bytes of `out` from byte `at` on; the bytes before and behind stay as
+ *              they are
+ *
+ * Refusals, in this order: MIP_LENGTH where `left` or `right` is not 1,024 bytes; MIP_ROOM where `out` has fewer than 1,024 bytes from
+ * `at` on; MIP_FIELD at 0 where `left` breaks a rule, at 1 where `right` does; MIP_MISMATCH at 1 where their label settings differ;
+ * MIP_ORDER at 1 where `right` does not begin where `left` ends. Summaries that were made or joined here, adjoin and have equal label
+ * settings are never refused, given room. */
+uint64_t mip_join(const uint8_t *left, size_t left_len,
+                  const uint8_t *right, size_t right_len,
+                  uint8_t *out, size_t out_len, size_t at);
+
 /* Percentile delay and range of a list of delays, in ns, in any order. The list is read and stays as it is.
  *
  * settings   a settings record, 64 bytes; Pr, most delay and most range are taken from it

@@ -4,3 +4,4 @@ pub mod Delayed
 pub mod Measured
 pub mod Labelled
 pub mod Stepped
+pub mod Summarised

@@ -3,4 +3,5 @@ pub mod DelayList
 pub mod FrameList
 pub mod LabelList
 pub mod Running
+pub mod SummaryList
 pub mod Word

@@ -3,4 +3,5 @@ mod delay_list;
 mod frame_list;
 mod label_list;
 mod running;
+mod summary_list;
 mod word;
