@@ -128,7 +128,13 @@ fn interval(number: usize) -> [u8; 48] {
 /// What a summary says of itself, and its loss track of its first run, of what lies between, and of its last run: docs/RECORDS.md has the
 /// offsets.
 fn show(name: &str, s: &Summary) {
-    let run = |at: usize| format!("{} {}", get(s, at + 4), if get(s, at) == 0 { "low" } else { "high" });
+    let run = |at: usize| {
+        format!(
+            "{} {}",
+            get(s, at + 4),
+            if get(s, at) == 0 { "low" } else { "high" }
+        )
+    };
     println!(
         "{name} {} to {}: first run {}, between {} unavailable, last run {}",
         get(s, 0),
@@ -158,7 +164,16 @@ fn main() -> Result<(), Refused> {
     println!("joined and uncut: the same {} bytes", joined.len());
 
     let refused = mippadusk::join(&right, &left).unwrap_err();
-    println!("right before left: refused {} {}", refused.number, refused.place);
-    assert_eq!(refused, Refused { number: 7, place: 1 });
+    println!(
+        "right before left: refused {} {}",
+        refused.number, refused.place
+    );
+    assert_eq!(
+        refused,
+        Refused {
+            number: 7,
+            place: 1
+        }
+    );
     Ok(())
 }
