@@ -129,7 +129,7 @@ fn measure(row: &Row) {
         None => (String::new(), String::new()),
     };
     println!(
-        "| {:40} | {:9} | {:21} | {:9} | {:8} | {:5.2} | {:8} | {:5} |",
+        "| {:46} | {:9} | {:15} | {:9} | {:9} | {:5.2} | {:8} | {:5} |",
         row.name,
         shown(ours),
         format!("{} a {}", shown(ours / row.items.1 as f64), row.items.0),
