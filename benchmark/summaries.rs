@@ -7,18 +7,18 @@ const SIZE: usize = 1024;
 
 /// What intervals add up to. The least delay is kept as headroom, the largest delay less it.
 #[derive(Clone, Copy, Default)]
-struct Load {
-    count: u32,
-    most: u32,
-    headroom: u32,
-    sent: u64,
-    lost: u64,
-    sum: u64,
+pub struct Load {
+    pub count: u32,
+    pub most: u32,
+    pub headroom: u32,
+    pub sent: u64,
+    pub lost: u64,
+    pub sum: u64,
 }
 
 impl Load {
     #[inline(always)]
-    fn add(&mut self, o: &Load) {
+    pub fn add(&mut self, o: &Load) {
         self.count += o.count;
         self.most = self.most.max(o.most);
         self.headroom = self.headroom.max(o.headroom);
@@ -61,11 +61,11 @@ fn long(p: u32, k: u32) -> u32 {
 /// Where maintenance splits a run of high marks: not solid, so many counted intervals touch the left end and the right end, and so many
 /// stretches of p or more neither. Solid: all touch the left end.
 #[derive(Clone, Copy)]
-struct Edges {
-    solid: bool,
-    pre: u32,
-    inner: u32,
-    post: u32,
+pub struct Edges {
+    pub solid: bool,
+    pub pre: u32,
+    pub inner: u32,
+    pub post: u32,
 }
 
 impl Edges {
@@ -112,17 +112,17 @@ impl Edges {
     }
 
     #[inline(always)]
-    fn runs(&self, p: u32) -> u32 {
+    pub fn runs(&self, p: u32) -> u32 {
         long(p, self.pre) + self.inner + long(p, self.post)
     }
 }
 
 #[derive(Clone, Copy)]
-struct Run {
-    high: bool,
-    len: u32,
-    edges: Edges,
-    load: Load,
+pub struct Run {
+    pub high: bool,
+    pub len: u32,
+    pub edges: Edges,
+    pub load: Load,
 }
 
 impl Run {
@@ -158,15 +158,15 @@ impl Run {
 }
 
 #[derive(Clone, Copy, Default)]
-struct Figures {
-    high: u32,
-    runs: u32,
-    load: Load,
+pub struct Figures {
+    pub high: u32,
+    pub runs: u32,
+    pub load: Load,
 }
 
 impl Figures {
     #[inline(always)]
-    fn add(&mut self, o: &Figures) {
+    pub fn add(&mut self, o: &Figures) {
         self.high += o.high;
         self.runs += o.runs;
         self.load.add(&o.load);
@@ -185,16 +185,16 @@ const UNAVAILABLE: u32 = 2;
 
 /// What lies between two runs. The label is 0 where it is that of the run before.
 #[derive(Clone, Copy, Default)]
-struct Middle {
-    label: u32,
-    unavailable: u32,
-    inherited: Figures,
-    available: Figures,
+pub struct Middle {
+    pub label: u32,
+    pub unavailable: u32,
+    pub inherited: Figures,
+    pub available: Figures,
 }
 
 impl Middle {
     #[inline(always)]
-    fn place(&mut self, label: u32, f: &Figures) {
+    pub fn place(&mut self, label: u32, f: &Figures) {
         match label {
             0 => self.inherited.add(f),
             AVAILABLE => self.available.add(f),
@@ -204,7 +204,7 @@ impl Middle {
 
     /// A run behind it that grows no more: a long one has its own label, a short one that of what is before it.
     #[inline(always)]
-    fn shut(&mut self, n: u32, p: u32, r: &Run) {
+    pub fn shut(&mut self, n: u32, p: u32, r: &Run) {
         if n <= r.len {
             self.label = AVAILABLE + r.high as u32;
         }
@@ -216,7 +216,7 @@ impl Middle {
         self.place(self.label, &f);
     }
 
-    fn behind(&mut self, o: &Middle) {
+    pub fn behind(&mut self, o: &Middle) {
         self.place(self.label, &o.inherited);
         self.available.add(&o.available);
         self.unavailable += o.unavailable;
@@ -249,7 +249,7 @@ impl Middle {
 }
 
 #[derive(Clone, Copy)]
-enum Track {
+pub enum Track {
     Nothing,
     One(Run),
     Many(Run, Middle, Run),
@@ -381,10 +381,10 @@ fn track_in(s: &[u8; 216]) -> Option<Track> {
 
 /// First number, number after the last, label settings and the two tracks.
 pub struct Summary {
-    first: u32,
-    after: u32,
-    label: Label,
-    tracks: [Track; 2],
+    pub first: u32,
+    pub after: u32,
+    pub label: Label,
+    pub tracks: [Track; 2],
 }
 
 /// The summary in these bytes, if it meets every rule.
