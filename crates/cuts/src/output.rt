@@ -1,0 +1,45 @@
+// What the edges print.
+use libc::STDOUT_FILENO;
+use records::refusal;
+use records::refusal::Refusal;
+
+pub fn text(s: &[u8]) {
+    io::write_all(STDOUT_FILENO, s);
+}
+
+pub fn line(s: &[u8]) {
+    text(s);
+    text(b"\n");
+}
+
+// A number behind a space.
+pub fn number(n: u64) {
+    text(b" ");
+    io::print_decimal(STDOUT_FILENO, n);
+}
+
+// A number with nothing before it.
+pub fn plain(n: u64) {
+    io::print_decimal(STDOUT_FILENO, n);
+}
+
+pub fn digit(n: u8) {
+    plain(n as u64);
+}
+
+// 1 or 0.
+pub fn bit(b: bool) {
+    if b {
+        text(b"1");
+    } else {
+        text(b"0");
+    }
+}
+
+// A refusal: its number and its place.
+pub fn refused(r: Refusal) {
+    let fault = r.fault;
+    text(b" refused");
+    number(refusal::number(fault));
+    number(r.place);
+}

@@ -1,0 +1,196 @@
+// Reports of a period between two stretches, and its verdicts.
+use crate::circuit;
+use crate::circuit::RECORDS;
+use crate::output;
+use records::bytes;
+use reports::sets;
+use reports::sets::Judged;
+use reports::three;
+use reports::three::Reported;
+use tallies::Period;
+use verdicts::Verdict;
+use verdicts::Verdicts;
+
+fn show_loss(r: Period) {
+    let t = r.loss;
+    let a = t.available;
+    let u = t.undecided;
+    output::number(r.length as u64);
+    output::number(r.maintenance as u64);
+    output::text(b" |");
+    output::number(a.count as u64);
+    output::number(t.unavailable as u64);
+    output::number(u.count as u64);
+    output::text(b" |");
+    output::number(a.high as u64);
+    output::number(a.runs as u64);
+}
+
+fn show_rest(r: Period) {
+    let t = r.loss;
+    let a = t.available;
+    let c = r.composite;
+    output::text(b" |");
+    output::number(a.sent);
+    output::number(a.lost);
+    output::text(b" |");
+    output::number(a.sum);
+    output::number(a.least as u64);
+    output::number(a.most as u64);
+    output::text(b" |");
+    output::number(c.available as u64);
+    output::number(c.unavailable as u64);
+    output::number(c.undecided as u64);
+}
+
+fn show_report(three: &[u8]) {
+    match three::report(three) {
+        Reported::Answered(r) => {
+            show_loss(r);
+            show_rest(r);
+        }
+        Reported::Refused(r) => output::refused(r),
+    }
+}
+
+// A verdict as a digit: 0 not met, 1 met, 2 not yet.
+fn show_verdict(v: Verdict) {
+    output::plain(verdicts::number(v));
+}
+
+pub fn show_verdicts(v: Verdicts) {
+    let availability = v.availability;
+    let composite = v.composite;
+    let loss = v.loss;
+    let mean = v.mean;
+    let high = v.high;
+    let runs = v.runs;
+    output::text(b" ");
+    show_verdict(availability);
+    show_verdict(composite);
+    show_verdict(loss);
+    show_verdict(mean);
+    show_verdict(high);
+    show_verdict(runs);
+}
+
+pub fn show_set(s: &[u8], pairs: u64, summaries: &[u8]) {
+    match sets::verdicts(s, pairs, summaries) {
+        Judged::Answered(v) => {
+            show_verdicts(v);
+        }
+        Judged::Refused(r) => output::refused(r),
+    }
+}
+
+// The three summaries of a circuit, cut before the `a`-th and before the `b`-th interval, at `at`.
+pub fn put_three(
+    s: &[u8],
+    records: &[u8],
+    a: usize,
+    b: usize,
+    count: usize,
+    out: &mut [u8],
+    at: usize,
+) {
+    if at <= 65536 {
+        circuit::put_summary(s, records, 0, a, out, at);
+        circuit::put_summary(s, records, a, b, out, at + 1024);
+        circuit::put_summary(s, records, b, count, out, at + 2048);
+    }
+}
+
+fn show(s: &[u8], records: &[u8], a: usize, b: usize, count: usize) {
+    let mut three = [0u8; 3072];
+    put_three(s, records, a, b, count, &mut three, 0);
+    show_report(&three);
+    output::text(b" |");
+    show_set(s, 1, &three);
+    output::text(b"\n");
+}
+
+// The report of the intervals from the `a`-th on to before the `b`-th, and its verdicts.
+fn line(letters: &[u8], n: u8, p: u8, a: usize, b: usize) {
+    let s = circuit::settings(n, p);
+    let mut records = [0u8; RECORDS];
+    circuit::put_records(&mut records, letters);
+    output::text(letters);
+    output::number(a as u64);
+    output::number(b as u64);
+    output::text(b":");
+    show(&s, &records, a, b, letters.len());
+}
+
+// The same with one objective at another value.
+fn objective(name: &[u8], letters: &[u8], p: u8, at: usize, value: u32) {
+    let mut s = circuit::settings(3, p);
+    bytes::put_u32(&mut s, 24, 500_000);
+    bytes::put_u32(&mut s, 28, 500_000);
+    bytes::put_u32(&mut s, 32, 500_000);
+    bytes::put_u32(&mut s, 36, 1_000);
+    bytes::put_u32(&mut s, at, value);
+    let mut records = [0u8; RECORDS];
+    circuit::put_records(&mut records, letters);
+    output::text(letters);
+    output::text(b" ");
+    output::text(name);
+    output::number(value as u64);
+    output::text(b":");
+    verdict_line(&s, &records, letters.len());
+}
+
+fn verdict_line(s: &[u8], records: &[u8], count: usize) {
+    let mut three = [0u8; 3072];
+    put_three(s, records, 0, count, count, &mut three, 0);
+    show_set(s, 1, &three);
+    output::text(b"\n");
+}
+
+pub fn run() {
+    output::line(
+        b"reports: length, maintenance | available, unavailable, undecided | high, runs | sent, lost | sum, least, most | composite | verdicts",
+    );
+    line(b"HHHLLL", 3, 2, 0, 6);
+    line(b"HHH", 3, 2, 1, 2);
+    line(b"HHH", 3, 2, 0, 2);
+    line(b"HH", 3, 2, 0, 2);
+    line(b"LHHL", 3, 2, 0, 4);
+    line(b"LHHL", 3, 2, 2, 4);
+    line(b"LHHL", 3, 0, 0, 4);
+    line(b"LhHL", 3, 2, 0, 4);
+    line(b"hhhllnhhh", 3, 2, 0, 9);
+    line(b"NNNN", 3, 2, 0, 4);
+    line(b"HHHLLHL", 3, 2, 5, 5);
+    line(b"", 3, 2, 0, 0);
+    output::line(b"objectives: availability, composite, loss, mean, high, runs");
+    objective(b"availability", b"LLLLLLLLLLLLHHHLLLLL", 2, 24, 850_000);
+    objective(b"availability", b"LLLLLLLLLLLLHHHLLLLL", 2, 24, 850_001);
+    objective(
+        b"availability",
+        b"LLLLLLLLLLLLHHHHHLLLlllLL",
+        2,
+        24,
+        772_727,
+    );
+    objective(b"availability", b"HHHLLLLLLLLLLLLLLLl", 2, 24, 833_333);
+    objective(b"availability", b"HHHHLLLLLLLLLLLLLLLLL", 2, 24, 0);
+    objective(b"availability", b"HHHHLLLLLLLLLLLLLLLLL", 2, 24, 1_000_000);
+    objective(b"availability", b"LLLL", 2, 24, 1_000_000);
+    objective(b"loss", b"LHHL", 2, 32, 499_999);
+    objective(b"loss", b"LHHL", 2, 32, 500_000);
+    objective(b"loss", b"LHHL", 2, 32, 0);
+    objective(b"loss", b"LHHL", 2, 32, 1_000_000);
+    objective(b"loss", b"NNNN", 2, 32, 0);
+    objective(b"mean", b"LHHL", 2, 36, 999);
+    objective(b"mean", b"LHHL", 2, 36, 1_000);
+    objective(b"mean", b"LHHL", 2, 36, 0);
+    objective(b"mean", b"LHHL", 2, 36, 1_000_000_000);
+    objective(b"mean", b"NNNN", 2, 36, 0);
+    objective(b"high", b"LHHL", 2, 40, 1);
+    objective(b"high", b"LHHL", 2, 40, 2);
+    objective(b"high", b"LHHL", 2, 40, 4_294_967_295);
+    objective(b"runs", b"LHHL", 2, 44, 0);
+    objective(b"runs", b"LHHL", 2, 44, 1);
+    objective(b"runs", b"LHHL", 0, 44, 0);
+    objective(b"runs", b"LHHL", 0, 44, 1);
+}
