@@ -1,7 +1,7 @@
 -- What three summaries give where each test has been made: one law for each way out. And what is known of three whose report is answered: they are valid, of equal label settings,
 -- and adjoin, so that their report keeps to its bounds.
 -- Assumes nothing.
-use mathlib.Core.Path.{_≡_, refl, sym, subst}
+use mathlib.Core.Path.{_≡_, refl, subst}
 use mathlib.Core.Bool.{Bool, true, false}
 use mathlib.Core.List.{List}
 use Prim.Native.Nat.{ℕ, _+_}
@@ -134,6 +134,12 @@ answer-found w s base p e = reads-found w base _ _ _ p _ _ _ refl refl refl e
 -- so every report answered keeps to its bounds, for some p
 pub found-bounded : (p : Period) (f : Found p) → PeriodBounded (labelOf (f .b) .p) p
 found-bounded p f = subst (λ r. PeriodBounded (labelOf (f .b) .p) r) (f .told) (period-bounded (f .a) (f .b) (f .c) (f .known))
+
+pub report-bounded : (s : List ℕ) (p : Period) → reportOf s ≡ Reported.Answered p → (q : ℕ) × PeriodBounded q p
+unfolding reportOf
+report-bounded s p e =
+    let f = answer-found Wanted.Any s 0 p (passed _ _ _ _ p e .1) in
+    (labelOf (f .b) .p, found-bounded p f)
 
 -- two results that the contract allows are one
 pub report-coincide : (s : List ℕ) (x y : Reported) → x ≡ reportOf s → y ≡ reportOf s → x ≡ y

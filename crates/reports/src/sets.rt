@@ -39,7 +39,8 @@ fn of_pairs(v: Settings, s: &[u8], n: usize) -> Judged
                 return Judged::Refused(r);
             }
             Reported::Answered(p) => {
-                all = verdicts::both(all, verdicts::verdicts_of(v, p));
+                let one = verdicts::verdicts_of(v, p);
+                all = verdicts::both(all, one);
             }
         }
         k += 1;

@@ -8,11 +8,11 @@ use records::settings;
 use records::settings::LabelSettings;
 use tallies::Period;
 ghost use mathlib.Core.Path.{_≡_};
-ghost use Prim.Native.Nat.{_+_, _≤_, _<_};
+ghost use Prim.Native.Nat.{_≤_};
 ghost use lib.Dec.{eqb};
 ghost use Rattle.records.specs.Refusals.{refusal};
 ghost use Rattle.records.specs.Settings.{sameLabel};
-ghost use Rattle.periods.specs.Stretches.{stretchOf, firstOf, afterOf, labelOf};
+ghost use Rattle.periods.specs.Stretches.{firstOf, afterOf, labelOf};
 ghost use Rattle.reports.specs.Three.{summaryAt, suits, judgedThree, threeAt, reportOf, ThreeRead, places};
 
 pub enum Reported {

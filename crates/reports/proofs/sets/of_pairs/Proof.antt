@@ -1,13 +1,11 @@
 -- `reports::sets::of_pairs` meets its contract. The loop's invariant: the whole outcome is what the pairs from k on give after those passed.
 -- Assumes nothing.
 use mathlib.Core.Path.{sym, _∙_}
-use mathlib.Core.List.{[], _∷_}
 use Prim.Native.Nat.{_-_}
 use native.Mathlib.Omega.{arith}
 use borrow.Author.Needs.{needs}
 use Rattle.records.specs.Limits.{pairs}
 use Rattle.records.proofs.SettingsRecord.{settings-valid}
-use Rattle.verdicts.specs.Sets.{ofSets}
 use Rattle.verdicts.proofs.Fitting.{judgeable}
 use Rattle.periods.specs.Stretches.{labelOf}
 use Rattle.reports.proofs.Going.{Going, going-start, going-refused, going-next, going-done}

@@ -1,0 +1,14 @@
+-- A made summary is 1,024 bytes.
+-- Assumes nothing.
+use mathlib.Core.Path.{_≡_, ap, _∙_}
+use mathlib.Core.List.{List}
+use Prim.Native.Nat.{ℕ}
+use lib.ListN.{length}
+use Rattle.records.specs.declared.interval.Interval.{Interval}
+use Rattle.records.specs.declared.settings.LabelSettings.{LabelSettings}
+use Rattle.summaries.specs.Making.{madeOf}
+use Rattle.summaries.proofs.Placing.{size-summary}
+use Rattle.periods.specs.Stretches.{madeBytes, bytes-held}
+
+pub size-made : (l : LabelSettings) (first : ℕ) (vs : List Interval) → length (madeBytes l first vs) ≡ 1024
+size-made l first vs = ap length (bytes-held l first vs) ∙ size-summary (madeOf l first vs)

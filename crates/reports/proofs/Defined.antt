@@ -1,0 +1,144 @@
+-- Reports and verdicts on summaries that are made of intervals are the definition's: each summary is read back at its place, all tests pass, and what is
+-- answered is the definition's report, by the labels of the full known sequence.
+-- Assumes nothing.
+use mathlib.Core.Path.{_≡_, refl, ap, sym, _∙_}
+use mathlib.Core.Bool.{true}
+use mathlib.Core.List.{List, [], _∷_, _++_, map, append-assoc, append-nil}
+use Prim.Native.Nat.{ℕ, suc, _+_, _*_, _/_, _≤_, _<_}
+use native.Mathlib.Omega.{arith}
+use lib.ListN.{length, take, drop, length-append}
+use lib.Seq.{take-at, drop-at}
+use borrow.Author.Tests.{eq-eqb}
+use Rattle.records.specs.Limits.{intervals, pairs}
+use Rattle.records.specs.Many.{recordAt}
+use Rattle.records.specs.Settings.{labelMeets, settingsOf, sameLabel}
+use Rattle.records.specs.declared.interval.Interval.{Interval}
+use Rattle.records.specs.declared.settings.LabelSettings.{LabelSettings}
+use Rattle.records.specs.declared.settings.Settings.{Settings}
+use Rattle.records.specs.declared.settings.SettingsRead.{SettingsRead}
+use Rattle.records.proofs.Parts.{record-there}
+use Rattle.records.proofs.SettingsRecord.{label-valid, same-label-self}
+use Rattle.labels.proofs.Placing.{read-label}
+use Rattle.tallies.specs.Report.{Labelled}
+use Rattle.tallies.proofs.Valid.{AllValid}
+use Rattle.periods.specs.Stretches.{stretchOf, firstOf, afterOf, labelOf, madeStretch, madeBytes}
+use Rattle.periods.specs.declared.StretchRead.{StretchRead}
+use Rattle.periods.proofs.Promises.{made-read, made-first, made-after, made-label, period-defined}
+use Rattle.periods.proofs.Sizes.{size-made}
+use Rattle.verdicts.specs.Verdicts.{verdictsOf}
+use Rattle.verdicts.specs.Sets.{ofSets}
+use Rattle.verdicts.specs.declared.Verdicts.{Verdicts}
+use Rattle.reports.specs.Circuits.{Circuit, threeBytes, setBytes, defined}
+use Rattle.reports.specs.Sets.{pairsFrom, setFrom, judgedOf}
+use Rattle.reports.specs.Three.{unless, suits, summaryAt, threeAt, reportOf}
+use Rattle.reports.specs.declared.sets.Judged.{Judged}
+use Rattle.reports.specs.declared.three.Reported.{Reported}
+use Rattle.reports.specs.declared.three.Wanted.{Wanted}
+use Rattle.reports.proofs.Going.{gone-over}
+use Rattle.reports.proofs.Judging.{adjoined, all-read}
+
+-- a circuit of valid intervals, no more than there are, with its labels
+pub record Sound (l : LabelSettings) (x : Circuit) : Type 0 where
+  pub before : AllValid (x .before)
+  pub middle : AllValid (x .middle)
+  pub behind : AllValid (x .behind)
+  pub room : length (x .before) + length (x .middle) + length (x .behind) ≤ intervals
+  pub labelled : Labelled l (x .before ++ (x .middle ++ x .behind)) (x .loss) (x .composite)
+
+unfoldable pub AllSound : LabelSettings → List Circuit → Type 0
+AllSound l [] = Unit {0}
+AllSound l (x ∷ xs) = Sound l x × AllSound l xs
+
+-- a record among others
+record-at : (s front x y : List ℕ) (k : ℕ) → s ≡ front ++ (x ++ y) → length front ≡ k * 1024 → length x ≡ 1024 → recordAt s 1024 k ≡ x
+record-at s front x y k e f g =
+    let n : length s ≡ length front + (length x + length y) = ap length e ∙ simp length-append in
+    let h : k < length s / 1024 = omega arith in
+    record-there s 1024 k (omega arith) h
+    ∙ ap (λ t. take 1024 (drop (k * 1024) t)) e
+    ∙ ap (take 1024) (drop-at front (x ++ y) (k * 1024) f)
+    ∙ take-at x y 1024 g
+
+-- three made summaries among others
+
+alike : (l : LabelSettings) (j k : ℕ) (vs ws : List Interval) → sameLabel (labelOf (madeStretch l j vs)) (labelOf (madeStretch l k ws)) ≡ true
+alike l j k vs ws = rw (made-label l j vs, made-label l k ws) (same-label-self l)
+
+size-three : (l : LabelSettings) (x : Circuit) → length (threeBytes l x) ≡ 3072
+unfolding threeBytes
+size-three l x = simp (length-append, size-made)
+
+module _ (l : LabelSettings) (valid : labelMeets l ≡ true) (x : Circuit) (sound : Sound l x) (front rest : List ℕ) (base : ℕ) (e : length front ≡ base * 1024) where
+  left-read : summaryAt (front ++ (threeBytes l x ++ rest)) base ≡ StretchRead.Valid (madeStretch l 0 (x .before))
+  unfolding threeBytes
+  left-read =
+      let a : List ℕ = madeBytes l 0 (x .before) in
+      let b : List ℕ = madeBytes l (length (x .before)) (x .middle) in
+      let c : List ℕ = madeBytes l (length (x .before) + length (x .middle)) (x .behind) in
+      ap stretchOf (record-at _ front a ((b ++ c) ++ rest) base (simp append-assoc) e (size-made l 0 (x .before)))
+      ∙ made-read l 0 (x .before) valid (sound .before) (omega (arith, sound .room))
+
+  middle-read : summaryAt (front ++ (threeBytes l x ++ rest)) (base + 1) ≡ StretchRead.Valid (madeStretch l (length (x .before)) (x .middle))
+  unfolding threeBytes
+  middle-read =
+      let a : List ℕ = madeBytes l 0 (x .before) in
+      let b : List ℕ = madeBytes l (length (x .before)) (x .middle) in
+      let c : List ℕ = madeBytes l (length (x .before) + length (x .middle)) (x .behind) in
+      ap stretchOf
+      (record-at _ (front ++ a) b (c ++ rest) (base + 1) (simp append-assoc) (omega (arith, length-append front a, size-made l 0 (x .before))) (size-made l (length (x .before)) (x .middle)))
+      ∙ made-read l (length (x .before)) (x .middle) valid (sound .middle) (omega (arith, sound .room))
+
+  right-read : summaryAt (front ++ (threeBytes l x ++ rest)) (base + 2) ≡ StretchRead.Valid (madeStretch l (length (x .before) + length (x .middle)) (x .behind))
+  unfolding threeBytes
+  right-read =
+      let a : List ℕ = madeBytes l 0 (x .before) in
+      let b : List ℕ = madeBytes l (length (x .before)) (x .middle) in
+      let c : List ℕ = madeBytes l (length (x .before) + length (x .middle)) (x .behind) in
+      ap stretchOf
+      (record-at _ ((front ++ a) ++ b) c rest (base + 2) (simp append-assoc)
+      (omega (arith, length-append (front ++ a) b, length-append front a, size-made l 0 (x .before), size-made l (length (x .before)) (x .middle))) (size-made l (length (x .before) + length (x .middle)) (x .behind)))
+      ∙ made-read l (length (x .before) + length (x .middle)) (x .behind) valid (sound .behind) (sound .room)
+
+  pub three-defined : (w : Wanted) → suits w l ≡ true → threeAt w (front ++ (threeBytes l x ++ rest)) base ≡ Reported.Answered (defined l x)
+  three-defined w suit =
+      let i = length (x .before) in
+      let j = length (x .before) + length (x .middle) in
+      all-read w (front ++ (threeBytes l x ++ rest)) base (madeStretch l 0 (x .before)) left-read (madeStretch l i (x .middle)) middle-read (madeStretch l j (x .behind)) right-read
+      ∙ adjoined w base (madeStretch l 0 (x .before)) (madeStretch l i (x .middle)) (madeStretch l j (x .behind)) (ap (suits w) (made-label l 0 (x .before)) ∙ suit)
+      (alike l 0 i (x .before) (x .middle)) (alike l i j (x .middle) (x .behind))
+      (eq-eqb (firstOf (madeStretch l 0 (x .before))) 0 (made-first l 0 (x .before)))
+      (eq-eqb (afterOf (madeStretch l 0 (x .before))) (firstOf (madeStretch l i (x .middle))) (omega (arith, made-after l 0 (x .before), made-first l i (x .middle))))
+      (eq-eqb (afterOf (madeStretch l i (x .middle))) (firstOf (madeStretch l j (x .behind))) (omega (arith, made-after l i (x .middle), made-first l j (x .behind))))
+      ∙ ap Reported.Answered (period-defined l (label-valid l valid .n-facts .0) (x .before) (x .middle) (x .behind) (sound .middle) (x .loss) (x .composite) (sound .labelled))
+
+-- The report on before, period and after is the definition's over the sequence so far.
+pub report-defined : (l : LabelSettings) → labelMeets l ≡ true → (x : Circuit) → Sound l x → reportOf (threeBytes l x) ≡ Reported.Answered (defined l x)
+unfolding reportOf unless
+report-defined l valid x sound =
+    rw (eq-eqb (length (threeBytes l x)) 3072 (size-three l x))
+    (ap (λ s. threeAt Wanted.Any s 0) (sym (append-nil (threeBytes l x))) ∙ three-defined l valid x sound [] [] 0 refl Wanted.Any refl)
+
+-- A set of made ones: the verdicts of the set are those of the definition's reports.
+
+set-by :
+    (v : Settings) → labelMeets (v .label) ≡ true → (xs : List Circuit) → AllSound (v .label) xs → (front : List ℕ) (k : ℕ) → length front ≡ k * 3072 → (passed : List Verdicts) →
+    setFrom v passed (pairsFrom (length xs) (v .label) (front ++ setBytes (v .label) xs) k) ≡ Judged.Answered (ofSets (passed ++ map (λ x. verdictsOf v (defined (v .label) x)) xs))
+unfolding setFrom pairsFrom setBytes AllSound
+set-by v valid [] sound front k e passed = ap (λ l. Judged.Answered (ofSets l)) (sym (append-nil passed))
+set-by v valid (x ∷ xs) sound front k e passed =
+    let l = v .label in
+    rw (three-defined l valid x (sound .0) front (setBytes l xs) (3 * k) (omega arith) (Wanted.These l) (same-label-self l), ← append-assoc front (threeBytes l x) (setBytes l xs))
+    (set-by v valid xs (sound .1) (front ++ threeBytes l x) (suc k) (omega (arith, length-append front (threeBytes l x), size-three l x)) (passed ++ (verdictsOf v (defined l x) ∷ []))
+    ∙ ap (λ l. Judged.Answered (ofSets l)) (append-assoc passed (verdictsOf v (defined l x) ∷ []) (map (λ x. verdictsOf v (defined (v .label) x)) xs)))
+
+size-set : (l : LabelSettings) (xs : List Circuit) → length (setBytes l xs) ≡ length xs * 3072
+unfolding setBytes
+size-set l [] = refl
+size-set l (x ∷ xs) = omega (arith, length-append (threeBytes l x) (setBytes l xs), size-three l x, size-set l xs)
+
+pub verdicts-defined :
+    (settings : List ℕ) (v : Settings) → settingsOf settings ≡ SettingsRead.Valid v → (xs : List Circuit) → AllSound (v .label) xs → 1 ≤ length xs → length xs ≤ pairs →
+    judgedOf settings (length xs) (setBytes (v .label) xs) ≡ Judged.Answered (ofSets (map (λ x. verdictsOf v (defined (v .label) x)) xs))
+verdicts-defined settings v read xs sound some few =
+    gone-over settings (length xs) (setBytes (v .label) xs) v read some few (size-set (v .label) xs)
+    ∙ set-by v (read-label settings v read) xs sound [] 0 refl []
