@@ -16,7 +16,7 @@ pub enum Joined {
 }
 
 // The summary of both stretches.
-fn both(a: Summary, b: Summary) -> Summary
+pub fn both(a: Summary, b: Summary) -> Summary
     requires { ⌜ Adjoining a b ⌝ }
     ensures { λ r. ⌜ r ≡ joinedOf a b ⌝ }
 {

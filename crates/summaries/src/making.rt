@@ -111,7 +111,7 @@ fn go_on(l: LabelSettings, s: &[u8], n: usize, first: u32, a: Run, b: Run) -> Ga
 }
 
 // The summary of the records of `s`, or the first record that is at fault.
-fn gather(l: LabelSettings, s: &[u8], first: u32) -> Gathered
+pub fn gather(l: LabelSettings, s: &[u8], first: u32) -> Gathered
     requires { ⌜ (labelMeets l ≡ true) × (first ≤ intervals) ⌝ }
     ensures { λ r. ⌜ r ≡ gathered l first (now (s .entry)) ⌝ }
 {
