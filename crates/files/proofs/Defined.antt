@@ -1,0 +1,72 @@
+-- What a file says, fed in pieces of any sizes, is what its bytes say at once: the refusal of document 01's order; or else, whatever labels are
+-- those of its intervals, the report that the definition gives by these labels, and its verdicts.
+-- Assumes nothing.
+use mathlib.Core.Path.{_≡_, ap, sym, subst}
+use mathlib.Core.List.{List, [], append-nil}
+use Prim.Native.Nat.{ℕ, _+_, _≤_}
+use lib.ListN.{length}
+use Rattle.records.specs.Limits.{intervals}
+use Rattle.records.specs.Many.{countOf}
+use Rattle.records.specs.Refusals.{refusal}
+use Rattle.records.specs.Room.{hasRoom}
+use Rattle.records.specs.Sequence.{intervalsIn, checked}
+use Rattle.records.specs.Settings.{settingsOf}
+use Rattle.records.specs.declared.interval.Interval.{Interval}
+use Rattle.records.specs.declared.interval.Sequence.{Sequence}
+use Rattle.records.specs.declared.many.Counted.{Counted}
+use Rattle.records.specs.declared.refusal.Fault.{Fault}
+use Rattle.records.specs.declared.refusal.Refusal.{Refusal}
+use Rattle.records.specs.declared.settings.LabelSettings.{LabelSettings}
+use Rattle.records.specs.declared.settings.Settings.{Settings}
+use Rattle.records.specs.declared.settings.SettingsRead.{SettingsRead}
+use Rattle.records.proofs.SettingsRecord.{settings-valid}
+use Rattle.rule.specs.Labels.{Label}
+use Rattle.labels.specs.Stretch.{intervalsOf}
+use Rattle.tallies.specs.Report.{Labelled, report}
+use Rattle.tallies.proofs.Valid.{AllValid}
+use Rattle.summaries.specs.Making.{madeOf, gathered, gatheredSettings, made}
+use Rattle.summaries.specs.declared.making.Gathered.{Gathered}
+use Rattle.periods.specs.Stretches.{made-held}
+use Rattle.periods.proofs.Promises.{period-defined}
+use Rattle.feeding.specs.Feeding.{finishedBy, begun, Ready, Steps, joined}
+use Rattle.feeding.specs.declared.State.{State}
+use Rattle.feeding.proofs.Sound.{sound-whole}
+use Rattle.feeding.proofs.Whole.{fed-in-pieces}
+use Rattle.files.specs.Files.{aloneOf, answered, concludedBy, evaluated}
+use Rattle.files.specs.declared.Concluded.{Concluded}
+
+-- For every list of pieces: what is concluded of a state that feeding them has led to is what a file of all their bytes says.
+pub file-in-pieces :
+    (settings tail : List ℕ) (pieces : List (List ℕ)) {x : State} {last : List ℕ} →
+    Steps (begun settings) tail pieces x last → Ready x last →
+    concludedBy (settingsOf settings) (finishedBy (x .held) (x .left)) ≡ evaluated settings (joined pieces)
+unfolding evaluated
+file-in-pieces settings tail pieces steps ready = ap (concludedBy (settingsOf settings)) (fed-in-pieces settings tail pieces steps ready)
+
+-- a file is refused as `summary` refuses it
+pub file-refused : (settings s : List ℕ) (r : Refusal) → made settings 0 s 1024 0 ≡ Gathered.Bad r → evaluated settings s ≡ Concluded.Refused r
+unfolding evaluated made
+file-refused settings s r e = by (settingsOf settings) e
+  where
+    by : (x : SettingsRead) → gatheredSettings x (hasRoom 1024 0 1024) 0 s ≡ Gathered.Bad r → concludedBy x (gatheredSettings x (hasRoom 1024 0 1024) 0 s) ≡ Concluded.Refused r
+    by SettingsRead.Invalid f = let g : refusal Fault.Settings 0 ≡ r = cc in ap Concluded.Refused g
+    by (SettingsRead.Valid v) f = ap (concludedBy (SettingsRead.Valid v)) f
+
+alone-defined :
+    (l : LabelSettings) (vs : List Interval) → 1 ≤ l .n → AllValid vs → (loss composite : ℕ → Label) → Labelled l vs loss composite →
+    aloneOf (madeOf l 0 vs) ≡ report l loss composite 0 vs
+unfolding aloneOf madeOf
+alone-defined l vs some valid loss composite h =
+    rw (sym (made-held l 0 []), sym (made-held l 0 vs), sym (made-held l (0 + length vs) []))
+    (period-defined l some [] vs [] valid loss composite (subst (λ xs. Labelled l xs loss composite) (sym (append-nil vs)) h))
+
+-- a file that is not refused: by whatever labels its intervals have, the report is the definition's
+pub file-defined :
+    (settings s : List ℕ) (v : Settings) (n : ℕ) → settingsOf settings ≡ SettingsRead.Valid v → countOf (length s) 48 ≡ Counted.Whole n →
+    checked 0 0 (intervalsIn s) ≡ Sequence.Sound → (loss composite : ℕ → Label) → Labelled (v .label) (intervalsOf (intervalsIn s)) loss composite →
+    evaluated settings s ≡ Concluded.Answered (answered v (report (v .label) loss composite 0 (intervalsOf (intervalsIn s))))
+unfolding evaluated made gathered hasRoom intervals
+file-defined settings s v n valid whole sound loss composite h =
+    rw (valid, whole, sound)
+    (ap (λ r. Concluded.Answered (answered v r))
+    (alone-defined (v .label) (intervalsOf (intervalsIn s)) (settings-valid settings v valid .label-facts .n-facts .0) (sound-whole s sound .valid) loss composite h))
