@@ -1,5 +1,5 @@
-//! Writes the samples, the same bytes each time: samples/month, a month of a circuit in intervals of a minute, and examples/outage, two days with an
-//! outage across midnight. Run it at the repository's root:
+//! Writes the samples, the same bytes each time: samples/month, a month of a circuit in intervals of a minute; examples/outage, two days with an
+//! outage across midnight; and document 01's example for the program, which crates/evaluate/stdout is the output of. Run it at the repository's root:
 //!     rustc --edition 2024 -O -o target/generate samples/generate.rs && target/generate
 
 use std::fs;
@@ -21,26 +21,24 @@ impl Random {
     }
 }
 
-/// Settings as an operator sets them: n 10, p 3, all weights, C and U one half, late above 20 ms, jumpy above 5 ms.
-fn settings(availability: u32, composite: u32) -> Vec<u8> {
-    let words = |xs: &[u32]| xs.iter().flat_map(|x| x.to_le_bytes()).collect::<Vec<u8>>();
-    let mut bytes = words(&[60_000]);
-    bytes.extend([10, 3, 7, 0]);
-    bytes.extend(words(&[500_000, 500_000, 20_000_000, 5_000_000]));
-    // least availability and composite, most loss, mean delay, high loss intervals and runs, then percentile, its delay and its range
-    bytes.extend(words(&[
-        availability,
-        composite,
-        2_000,
-        12_000_000,
-        60,
-        20,
-        999_000,
-        25_000_000,
-        20_000_000,
-        0,
-    ]));
+/// A settings record: n, p and weights as the shape, then the words from C on.
+fn settings(length: u32, shape: [u8; 3], words: [u32; 13]) -> Vec<u8> {
+    let mut bytes = length.to_le_bytes().to_vec();
+    bytes.extend(shape);
+    bytes.push(0);
+    bytes.extend(words.iter().flat_map(|word| word.to_le_bytes()));
+    bytes.extend([0; 4]);
     bytes
+}
+
+/// Settings as an operator sets them: n 10, p 3, all weights, C and U one half, late above 20 ms, jumpy above 5 ms. Then least availability and composite,
+/// most loss, mean delay, high loss intervals and runs; percentile, its delay and its range.
+fn operator(availability: u32, composite: u32) -> Vec<u8> {
+    let label = [500_000, 500_000, 20_000_000, 5_000_000];
+    let objectives = [availability, composite, 2_000, 12_000_000, 60, 20];
+    let delays = [999_000, 25_000_000, 20_000_000];
+    let words: Vec<u32> = [&label[..], &objectives, &delays].concat();
+    settings(60_000, [10, 3, 7], words.try_into().unwrap())
 }
 
 /// What a stretch of intervals is like.
@@ -61,6 +59,16 @@ enum Kind {
 struct Plan {
     kind: Kind,
     maintenance: bool,
+}
+
+/// An interval record; `delays` are their sum, the least and the most.
+fn written(numbers: [u32; 6], delays: (u64, u32, u32), maintenance: bool) -> Vec<u8> {
+    let mut bytes: Vec<u8> = numbers.iter().flat_map(|x| x.to_le_bytes()).collect();
+    bytes.extend(delays.0.to_le_bytes());
+    bytes.extend(delays.1.to_le_bytes());
+    bytes.extend(delays.2.to_le_bytes());
+    bytes.extend([u8::from(maintenance), 0, 0, 0, 0, 0, 0, 0]);
+    bytes
 }
 
 /// One interval of 600 frames.
@@ -87,22 +95,18 @@ fn record(number: u32, plan: Plan, random: &mut Random) -> Vec<u8> {
     let hour = number / 60 % 24;
     let slow = if plan.kind == Kind::Slow { 3 } else { 1 };
     let mean = slow * (7_500_000 + 120_000 * (12 - hour.abs_diff(12)) + random.within(0, 400_000));
-    let (sum, least, most) = if delivered == 0 {
+    let delays = if delivered == 0 {
         (0, 0, 0)
     } else {
         let least = mean - mean / 4 - random.within(0, 200_000);
         let most = mean + mean / 3 + random.within(0, 2_000_000);
         (u64::from(mean) * u64::from(delivered), least, most)
     };
-    let mut bytes: Vec<u8> = [number, sent, lost, late, pairs, jumpy]
-        .iter()
-        .flat_map(|x| x.to_le_bytes())
-        .collect();
-    bytes.extend(sum.to_le_bytes());
-    bytes.extend(least.to_le_bytes());
-    bytes.extend(most.to_le_bytes());
-    bytes.extend([u8::from(plan.maintenance), 0, 0, 0, 0, 0, 0, 0]);
-    bytes
+    written(
+        [number, sent, lost, late, pairs, jumpy],
+        delays,
+        plan.maintenance,
+    )
 }
 
 fn mark(plans: &mut [Plan], from: usize, count: usize, kind: Kind) {
@@ -167,18 +171,43 @@ fn renumbered(intervals: &[u8]) -> Vec<u8> {
         .collect()
 }
 
+/// HHHLLL of document 01, with n 3, p 2, the loss weight alone and the objectives of its example.
+fn example() -> (Vec<u8>, Vec<u8>) {
+    let words = [
+        500_000, 500_000, 0, 0, 500_000, 500_001, 0, 1_000, 0, 0, 1, 0, 0,
+    ];
+    let interval = |number: u32| match number {
+        0..3 => written([number, 10, 10, 0, 0, 0], (0, 0, 0), false),
+        _ => written([number, 10, 0, 0, 0, 0], (10_000, 1_000, 1_000), false),
+    };
+    (
+        settings(1_000, [3, 2, 1], words),
+        (0..6).flat_map(interval).collect(),
+    )
+}
+
 fn main() -> std::io::Result<()> {
-    fs::create_dir_all("samples/month")?;
-    fs::write("samples/month/settings.rec", settings(998_500, 996_000))?;
-    fs::write(
-        "samples/month/intervals.rec",
-        month(&mut Random(20_260_101)),
+    let put = |directory: &str, name: &str, bytes: &[u8]| {
+        fs::create_dir_all(directory)?;
+        fs::write(format!("{directory}/{name}"), bytes)
+    };
+    put("samples/month", "settings.rec", &operator(998_500, 996_000))?;
+    put(
+        "samples/month",
+        "intervals.rec",
+        &month(&mut Random(20_260_101)),
     )?;
-    fs::create_dir_all("examples/outage")?;
     let days = outage(&mut Random(4));
     let (first, second) = days.split_at(1_440 * 48);
-    fs::write("examples/outage/settings.rec", settings(999_000, 999_000))?;
-    fs::write("examples/outage/part1.rec", first)?;
-    fs::write("examples/outage/part2.rec", second)?;
-    fs::write("examples/outage/part2-alone.rec", renumbered(second))
+    put(
+        "examples/outage",
+        "settings.rec",
+        &operator(999_000, 999_000),
+    )?;
+    put("examples/outage", "part1.rec", first)?;
+    put("examples/outage", "part2.rec", second)?;
+    put("examples/outage", "part2-alone.rec", &renumbered(second))?;
+    let (settings, intervals) = example();
+    put("crates/evaluate/data", "settings.rec", &settings)?;
+    put("crates/evaluate/data", "intervals.rec", &intervals)
 }
