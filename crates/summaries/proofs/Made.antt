@@ -49,20 +49,6 @@ pub join-made-bytes :
     summaryBytes (madeOf l first (xs ++ ys)) ≡ summaryBytes (joinedOf (madeOf l first xs) (madeOf l (first + length xs) ys))
 join-made-bytes l first xs ys = ap summaryBytes (join-made l first xs ys)
 
-<<<<<<< HEAD
-=======
--- a summary of valid intervals is valid
-
-unfoldable pub AllValid : List Interval → Type 0
-AllValid [] = Unit {0}
-AllValid (v ∷ vs) = IntervalValid v × AllValid vs
-
-all-sound : (f : Interval → Bool) (vs : List Interval) → AllValid vs → AllSound (map (λ v. markedAs (f v) v) vs)
-unfolding AllValid AllSound
-all-sound f [] h = tt
-all-sound f (v ∷ vs) h = (marked-sound (f v) v (h .0), all-sound f vs (h .1))
-
->>>>>>> 4b9cc9b (Feeding: a file fed in pieces of any sizes says what summary says of all its bytes)
 -- maintenance is the same on both tracks
 serving-same : (f g : Interval → Bool) (vs : List Interval) → serving (map (λ v. markedAs (f v) v) vs) ≡ serving (map (λ v. markedAs (g v) v) vs)
 unfolding serving markedAs
