@@ -3,7 +3,7 @@
 use mathlib.Core.Path.{_≡_, refl, ap, sym, _∙_}
 use mathlib.Core.Bool.{Bool, true, false}
 use mathlib.Core.List.{List, [], _∷_, _++_}
-use Prim.Native.Nat.{ℕ, zero, suc, _+_, _≤_, _<_}
+use Prim.Native.Nat.{ℕ, zero, suc, _+_, _/_, _≤_, _<_}
 use native.Mathlib.Nat.{add-zero, add-suc, suc-add}
 use native.Mathlib.Omega.{arith}
 use lib.ListN.{length}
@@ -13,14 +13,14 @@ use Rattle.records.specs.Interval.{intervalOf}
 use Rattle.records.specs.Limits.{intervals}
 use Rattle.records.specs.Many.{recordAt}
 use Rattle.records.specs.Refusals.{refusal}
-use Rattle.records.specs.Sequence.{readsFrom, checked, orderedIf}
+use Rattle.records.specs.Sequence.{readsFrom, intervalsIn, checked, orderedIf}
 use Rattle.records.specs.declared.interval.IntervalRead.{IntervalRead}
 use Rattle.records.specs.declared.interval.Sequence.{Sequence}
 use Rattle.records.specs.declared.refusal.Fault.{Fault}
 use Rattle.records.specs.declared.refusal.Refusal.{Refusal}
 use Rattle.records.proofs.IntervalRecord.{interval-valid}
 use Rattle.labels.specs.Stretch.{intervalsOf}
-use Rattle.summaries.proofs.Made.{AllValid}
+use Rattle.tallies.proofs.Valid.{AllValid}
 
 -- the check of a second part, where the first is sound
 abbrev pub thenIf : Sequence → Sequence → Sequence
@@ -106,3 +106,7 @@ sound-part next place (suc n) s k h e = by (intervalOf (recordAt s 48 k)) (sound
         let w = interval-valid (recordAt s 48 k) v f in
         let r = rest (omega (arith, w .number-fact, eqb-true (v .number) next (o .0))) (o .1) in
         record { many = ap suc (r .many); valid = (w, r .valid); within = omega (arith, r .within) }
+
+pub sound-whole : (s : List ℕ) → checked 0 0 (intervalsIn s) ≡ Sequence.Sound → SoundPart 0 (intervalsIn s)
+unfolding intervalsIn
+sound-whole s e = sound-part 0 0 (length s / 48) s 0 (omega arith) e

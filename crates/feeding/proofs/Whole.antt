@@ -26,7 +26,8 @@ use Rattle.summaries.specs.Making.{madeOf, goodIf, gathered, gatheredCount, gat
 use Rattle.summaries.specs.Stored.{summaryBytes}
 use Rattle.summaries.specs.declared.stored.Summary.{Summary}
 use Rattle.summaries.proofs.Joins.{join-assoc, join-reads-back}
-use Rattle.summaries.proofs.Made.{AllValid, join-made, made-reads-back}
+use Rattle.summaries.proofs.Made.{join-made, made-reads-back}
+use Rattle.tallies.proofs.Valid.{AllValid}
 use Rattle.summaries.proofs.Validity.{SummaryValid, summary-valid}
 use Rattle.feeding.specs.Feeding.{Standing, heldIf, behind, grown, grownBy, restOf, filled, begunBy, begun, fed, fedAll, finishedBy, finished, Known, Growing, Ready, joined, standing, Steps, done, next}
 use Rattle.feeding.specs.declared.Held.{Held}
