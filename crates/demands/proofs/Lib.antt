@@ -1,0 +1,2 @@
+pub mod AnyCut
+pub mod ThirdDemand

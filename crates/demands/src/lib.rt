@@ -1,0 +1,1 @@
+// No code: the buyer's third demand, as theorems on the bytes that the operations write (proofs/ThirdDemand.antt).
