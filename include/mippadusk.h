@@ -128,6 +128,47 @@ uint64_t mip_join(const uint8_t *left, size_t left_len,
                   const uint8_t *right, size_t right_len,
                   uint8_t *out, size_t out_len, size_t at);
 
+/* The report of a period: the middle one of three adjoining summaries.
+ *
+ * summaries  three summaries of 1,024 bytes each, of equal label settings: what is known before the period, from 0 on, the period, and
+ *            what is known behind it; each may be empty. The labels are those of all that is known, what is counted is the period's
+ * figures    room for 15 words or more; words behind the fifteenth stay as they are:
+ *              0       the period's length
+ *              1       its intervals in maintenance; these are in none of the figures below
+ *              2 to 4  available, unavailable and undecided intervals
+ *              5, 6    high loss intervals, and their runs of length p or more (0 where p is 0)
+ *              7 to 9  of available intervals: frames sent, frames lost, and the sum of the delays in ns
+ *              10, 11  of available intervals: the least and the most delay in ns, 0 where nothing was delivered
+ *              12 to 14  by the composite indicator: acceptable, unacceptable and undecided intervals
+ *
+ * Refusals, in this order: MIP_LENGTH where `summaries` is not 3,072 bytes; MIP_ROOM where `figures` is shorter than 15 words; MIP_FIELD
+ * at the first summary that breaks a rule; MIP_MISMATCH at the first whose label settings are not those of the one before; MIP_ORDER at 0
+ * where the first does not start at 0, then at the first that does not start where the one before ends. */
+uint64_t mip_report(const uint8_t *summaries, size_t summaries_len,
+                    uint64_t *figures, size_t figures_len);
+
+/* The verdicts of a set of ordered pairs against the objectives of the settings.
+ *
+ * settings   a settings record, 64 bytes
+ * pairs      the number of pairs, 1 to 64
+ * summaries  three summaries for each pair, as for mip_report, of the label settings of `settings`; pair behind pair
+ * verdicts   room for 6 words or more; words behind the sixth stay as they are. 0 is not met, 1 met, 2 not yet: for
+ *              0  availability
+ *              1  composite
+ *              2  loss
+ *              3  mean delay
+ *              4  high loss intervals
+ *              5  runs
+ *            Each is not met where it is not met for a pair, else not yet where it is not yet for a pair, else met.
+ *
+ * Refusals, in this order: MIP_SETTINGS; MIP_PAIRS where `pairs` is 0 or above 64; MIP_LENGTH where `summaries` is not pairs * 3,072
+ * bytes; MIP_ROOM where `verdicts` is shorter than 6 words; then pair by pair those of mip_report from MIP_FIELD on, summaries counted
+ * through all pairs, and MIP_MISMATCH also at a pair's first summary where its label settings are not those of `settings`. */
+uint64_t mip_verdicts(const uint8_t *settings, size_t settings_len,
+                      uint64_t pairs,
+                      const uint8_t *summaries, size_t summaries_len,
+                      uint64_t *verdicts, size_t verdicts_len);
+
 /* Percentile delay and range of a list of delays, in ns, in any order. The list is read and stays as it is.
  *
  * settings   a settings record, 64 bytes; Pr, most delay and most range are taken from it

@@ -5,3 +5,4 @@ pub mod Measured
 pub mod Labelled
 pub mod Stepped
 pub mod Summarised
+pub mod Judged

@@ -2,6 +2,7 @@
 pub mod DelayList
 pub mod FrameList
 pub mod LabelList
+pub mod ReportList
 pub mod Running
 pub mod SummaryList
 pub mod Word

@@ -2,6 +2,7 @@
 mod delay_list;
 mod frame_list;
 mod label_list;
+mod report_list;
 mod running;
 mod summary_list;
 mod word;
