@@ -1,6 +1,6 @@
 //! The program against the second program, on many directories: `./compare-program [SECONDS [SEED [CASE]]]` builds and runs it. First the samples are held
 //! to their expected texts. A case is made from the seed and its number alone, so a case that fails can be run again by itself. Some cases hand the
-//! intervals over through a pipe, in writes of odd sizes, so that reads are short.
+//! intervals over through a pipe, in writes of odd sizes, so that reads are short; some put a `read` before the C library's that is interrupted every other time.
 mod inputs;
 #[allow(dead_code)]
 mod random;
@@ -54,12 +54,25 @@ impl Entry {
     }
 }
 
+/// The program, and the library with a `read` that is interrupted.
+struct Ours {
+    program: PathBuf,
+    interrupted: PathBuf,
+}
+
 /// What the program prints in a directory.
-fn printed(program: &Path, directory: &Path, intervals: &Entry) -> std::io::Result<String> {
-    let mut run = Command::new(program);
-    let run = run
-        .current_dir(directory)
+fn printed(
+    ours: &Ours,
+    is_interrupted: bool,
+    directory: &Path,
+    intervals: &Entry,
+) -> std::io::Result<String> {
+    let mut run = Command::new(&ours.program);
+    run.current_dir(directory)
         .stdout(std::process::Stdio::piped());
+    if is_interrupted {
+        run.env("LD_PRELOAD", &ours.interrupted);
+    }
     let child = run.spawn()?;
     if let Entry::Pipe(bytes, sizes) = intervals {
         let mut to = fs::OpenOptions::new()
@@ -119,13 +132,14 @@ fn directory(r: &mut Random, index: u64) -> (Entry, Entry) {
     (settings, intervals)
 }
 
-fn case(program: &Path, directory_path: &Path, seed: u64, index: u64) -> Result<(), String> {
+fn case(program: &Ours, directory_path: &Path, seed: u64, index: u64) -> Result<(), String> {
     let mut r = Random::of_case(seed, "evaluate", index);
     let (settings, intervals) = directory(&mut r, index);
+    let is_interrupted = r.one_in(6);
     let place = || -> std::io::Result<String> {
         settings.place(&directory_path.join("settings.rec"))?;
         intervals.place(&directory_path.join("intervals.rec"))?;
-        printed(program, directory_path, &intervals)
+        printed(program, is_interrupted, directory_path, &intervals)
     };
     let ours = place().map_err(|e| e.to_string())?;
     let theirs = second::program::evaluate(settings.read(), intervals.read());
@@ -133,7 +147,7 @@ fn case(program: &Path, directory_path: &Path, seed: u64, index: u64) -> Result<
         return Ok(());
     }
     Err(format!(
-        "ours:\n{ours}the second program's:\n{theirs}settings.rec {}\nintervals.rec {}",
+        "interrupted: {is_interrupted}\nours:\n{ours}the second program's:\n{theirs}settings.rec {}\nintervals.rec {}",
         settings.shown(),
         intervals.shown()
     ))
@@ -158,7 +172,7 @@ fn samples() -> Vec<(&'static str, Vec<&'static str>, &'static str)> {
 }
 
 fn sample(
-    program: &Path,
+    program: &Ours,
     scratch: &Path,
     from: &str,
     parts: &[&str],
@@ -172,7 +186,7 @@ fn sample(
     let (settings, intervals) = (Entry::File(read("settings.rec")?), Entry::File(intervals));
     settings.place(&scratch.join("settings.rec"))?;
     intervals.place(&scratch.join("intervals.rec"))?;
-    let ours = printed(program, scratch, &intervals)?;
+    let ours = printed(program, false, scratch, &intervals)?;
     let theirs = second::program::evaluate(settings.read(), intervals.read());
     let told = String::from_utf8_lossy(&read(expected)?).into_owned();
     if ours != told || theirs != told {
@@ -191,22 +205,25 @@ fn main() -> std::io::Result<()> {
             .get(k)
             .map(|text| text.parse::<u64>().expect("a number"))
     };
-    let program = fs::canonicalize(&arguments[0])?;
+    let program = Ours {
+        program: fs::canonicalize(&arguments[0])?,
+        interrupted: fs::canonicalize(&arguments[1])?,
+    };
     let scratch: PathBuf =
         std::env::temp_dir().join(format!("compare-program-{}", std::process::id()));
     fs::create_dir_all(&scratch)?;
-    let (seconds, seed) = (number(1).unwrap_or(15), number(2).unwrap_or(1));
+    let (seconds, seed) = (number(2).unwrap_or(15), number(3).unwrap_or(1));
     for (from, parts, expected) in samples() {
         sample(&program, &scratch, from, &parts, expected)?;
     }
     let begun = Instant::now();
-    let cases = match number(3) {
+    let cases = match number(4) {
         Some(index) => index..index + 1,
         None => 0..u64::MAX,
     };
     let mut count = 0;
     for index in cases {
-        if number(3).is_none() && begun.elapsed() >= Duration::from_secs(seconds) {
+        if number(4).is_none() && begun.elapsed() >= Duration::from_secs(seconds) {
             break;
         }
         if let Err(fault) = case(&program, &scratch, seed, index) {
