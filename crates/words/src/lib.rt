@@ -1,0 +1,2 @@
+// What the C interface answers in words: a refusal as one, and words written over the first of others.
+pub mod word;
