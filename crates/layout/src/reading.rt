@@ -1,5 +1,5 @@
 // A track read out of bytes: its values, and whether its words are ones that a writer makes.
-use records::bytes;
+use records::known;
 use runs::figures::Figures;
 use runs::figures::Load;
 use runs::middles::Label;
@@ -8,33 +8,34 @@ use runs::run::Edges;
 use runs::run::Run;
 use tracks::Track;
 ghost use mathlib.Core.Path.{_≡_};
-ghost use Prim.Native.Nat.{_≤_};
+ghost use Prim.Native.Nat.{_+_, _≤_};
+ghost use lib.ListN.{length};
 ghost use Rattle.layout.specs.Reading.{loadIn, figuresIn, edgesIn, runIn, labelIn, middleIn, trackIn, runWords, wordsMeet};
 
 // The load from `at` on.
 fn load_in(s: &[u8], at: usize) -> Load
-    requires { ⌜ at ≤ 1024 ⌝ }
+    requires { ⌜ at + 36 ≤ length (now s) ⌝ }
     ensures { λ r. ⌜ r ≡ loadIn (now (s .entry)) at ⌝ }
 {
     Load {
-        count: bytes::get_u32(s, at),
-        sent: bytes::get_u64(s, at + 12),
-        lost: bytes::get_u64(s, at + 20),
-        sum: bytes::get_u64(s, at + 28),
-        most: bytes::get_u32(s, at + 4),
-        headroom: bytes::get_u32(s, at + 8),
+        count: known::get_u32(s, at),
+        sent: known::get_u64(s, at + 12),
+        lost: known::get_u64(s, at + 20),
+        sum: known::get_u64(s, at + 28),
+        most: known::get_u32(s, at + 4),
+        headroom: known::get_u32(s, at + 8),
     }
 }
 
 // The figures from `at` on.
 fn figures_in(s: &[u8], at: usize) -> Figures
-    requires { ⌜ at ≤ 1000 ⌝ }
+    requires { ⌜ at + 44 ≤ length (now s) ⌝ }
     ensures { λ r. ⌜ r ≡ figuresIn (now (s .entry)) at ⌝ }
 {
     Figures {
         load: load_in(s, at + 8),
-        high: bytes::get_u32(s, at),
-        runs: bytes::get_u32(s, at + 4),
+        high: known::get_u32(s, at),
+        runs: known::get_u32(s, at + 4),
     }
 }
 
@@ -50,19 +51,19 @@ fn edges_in(form: u32, pre: u32, inner: u32, post: u32) -> Edges
 
 // The run from `at` on.
 fn run_in(s: &[u8], at: usize) -> Run
-    requires { ⌜ at ≤ 512 ⌝ }
+    requires { ⌜ at + 56 ≤ length (now s) ⌝ }
     ensures { λ r. ⌜ r ≡ runIn (now (s .entry)) at ⌝ }
 {
-    let form = bytes::get_u32(s, at);
+    let form = known::get_u32(s, at);
     Run {
         mark: form != 0,
-        len: bytes::get_u32(s, at + 4),
+        len: known::get_u32(s, at + 4),
         load: load_in(s, at + 20),
         edges: edges_in(
             form,
-            bytes::get_u32(s, at + 8),
-            bytes::get_u32(s, at + 12),
-            bytes::get_u32(s, at + 16),
+            known::get_u32(s, at + 8),
+            known::get_u32(s, at + 12),
+            known::get_u32(s, at + 16),
         ),
     }
 }
@@ -80,23 +81,23 @@ fn label_in(word: u32) -> Label
 
 // The middle from `at` on.
 fn middle_in(s: &[u8], at: usize) -> Middle
-    requires { ⌜ at ≤ 512 ⌝ }
+    requires { ⌜ at + 96 ≤ length (now s) ⌝ }
     ensures { λ r. ⌜ r ≡ middleIn (now (s .entry)) at ⌝ }
 {
     Middle {
-        label: label_in(bytes::get_u32(s, at)),
+        label: label_in(known::get_u32(s, at)),
         inherited: figures_in(s, at + 8),
         available: figures_in(s, at + 52),
-        unavailable: bytes::get_u32(s, at + 4),
+        unavailable: known::get_u32(s, at + 4),
     }
 }
 
 // The track from `at` on.
 pub fn track_in(s: &[u8], at: usize) -> Track
-    requires { ⌜ at ≤ 256 ⌝ }
+    requires { ⌜ at + 216 ≤ length (now s) ⌝ }
     ensures { λ r. ⌜ r ≡ trackIn (now (s .entry)) at ⌝ }
 {
-    let kind = bytes::get_u64(s, at);
+    let kind = known::get_u64(s, at);
     match kind {
         0 => Track::Nothing,
         1 => Track::One(run_in(s, at + 8)),
@@ -110,24 +111,24 @@ pub fn track_in(s: &[u8], at: usize) -> Track
 
 // Whether the words of the run from `at` on are ones that a writer makes.
 fn run_words(s: &[u8], at: usize) -> bool
-    requires { ⌜ at ≤ 512 ⌝ }
+    requires { ⌜ at + 56 ≤ length (now s) ⌝ }
     ensures { λ r. ⌜ r ≡ runWords (now (s .entry)) at ⌝ }
 {
-    let form = bytes::get_u32(s, at);
+    let form = known::get_u32(s, at);
     (form <= 2)
-        & ((form != 2) | ((bytes::get_u32(s, at + 12) == 0) & (bytes::get_u32(s, at + 16) == 0)))
+        & ((form != 2) | ((known::get_u32(s, at + 12) == 0) & (known::get_u32(s, at + 16) == 0)))
 }
 
 // Whether the words of the track from `at` on are ones that a writer makes.
 pub fn words_meet(s: &[u8], at: usize) -> bool
-    requires { ⌜ at ≤ 256 ⌝ }
+    requires { ⌜ at + 216 ≤ length (now s) ⌝ }
     ensures { λ r. ⌜ r ≡ wordsMeet (now (s .entry)) at ⌝ }
 {
-    let kind = bytes::get_u64(s, at);
+    let kind = known::get_u64(s, at);
     match kind {
-        0 => bytes::are_zero(s, at + 8, 208),
-        1 => run_words(s, at + 8) & bytes::are_zero(s, at + 64, 152),
-        2 => run_words(s, at + 8) & (bytes::get_u32(s, at + 64) <= 2) & run_words(s, at + 160),
+        0 => known::are_zero(s, at + 8, 208),
+        1 => run_words(s, at + 8) & known::are_zero(s, at + 64, 152),
+        2 => run_words(s, at + 8) & (known::get_u32(s, at + 64) <= 2) & run_words(s, at + 160),
         _ => false,
     }
 }

@@ -1,5 +1,5 @@
 // A track put into bytes.
-use records::bytes;
+use records::known;
 use runs::figures;
 use runs::figures::Figures;
 use runs::figures::Load;
@@ -10,13 +10,14 @@ use runs::run::Edges;
 use runs::run::Run;
 use tracks::Track;
 ghost use mathlib.Core.Path.{_≡_};
-ghost use Prim.Native.Nat.{_≤_};
+ghost use Prim.Native.Nat.{_+_, _≤_};
+ghost use lib.ListN.{length};
 ghost use lib.Seq.{sets};
 ghost use Rattle.layout.specs.Bytes.{loadBytes, figuresBytes, formOf, preOf, innerOf, postOf, shapeBytes, runBytes, labelWord, middleBytes, blankRun, pieceBytes, trackBytes};
 
 // A load put from `at` on: 36 bytes.
 fn put_load(out: &mut [u8], at: usize, l: Load)
-    requires { ⌜ at ≤ 1024 ⌝ }
+    requires { ⌜ at + 36 ≤ length (now out) ⌝ }
     ensures { λ r. ⌜ now (out .exit) ≡ sets (now (out .entry)) at (loadBytes l) ⌝ }
 {
     let b = at + 4;
@@ -24,24 +25,24 @@ fn put_load(out: &mut [u8], at: usize, l: Load)
     let d = c + 4;
     let e = d + 8;
     let f = e + 8;
-    bytes::put_u32(out, at, l.count);
-    bytes::put_u32(out, b, l.most);
-    bytes::put_u32(out, c, l.headroom);
-    bytes::put_u64(out, d, l.sent);
-    bytes::put_u64(out, e, l.lost);
-    bytes::put_u64(out, f, l.sum);
+    known::put_u32(out, at, l.count);
+    known::put_u32(out, b, l.most);
+    known::put_u32(out, c, l.headroom);
+    known::put_u64(out, d, l.sent);
+    known::put_u64(out, e, l.lost);
+    known::put_u64(out, f, l.sum);
 }
 
 // Figures put from `at` on: 44 bytes.
 fn put_figures(out: &mut [u8], at: usize, f: Figures)
-    requires { ⌜ at ≤ 1000 ⌝ }
+    requires { ⌜ at + 44 ≤ length (now out) ⌝ }
     ensures { λ r. ⌜ now (out .exit) ≡ sets (now (out .entry)) at (figuresBytes f) ⌝ }
 {
     let b = at + 4;
     let c = b + 4;
     let l = f.load;
-    bytes::put_u32(out, at, f.high);
-    bytes::put_u32(out, b, f.runs);
+    known::put_u32(out, at, f.high);
+    known::put_u32(out, b, f.runs);
     put_load(out, c, l);
 }
 
@@ -84,7 +85,7 @@ fn post_of(e: Edges) -> u32
 
 // What a run has beside its load, put from `at` on: 20 bytes.
 fn put_shape(out: &mut [u8], at: usize, r: Run)
-    requires { ⌜ at ≤ 1024 ⌝ }
+    requires { ⌜ at + 20 ≤ length (now out) ⌝ }
     ensures { λ v. ⌜ now (out .exit) ≡ sets (now (out .entry)) at (shapeBytes r) ⌝ }
 {
     let b = at + 4;
@@ -92,16 +93,16 @@ fn put_shape(out: &mut [u8], at: usize, r: Run)
     let d = c + 4;
     let e = d + 4;
     let edges = r.edges;
-    bytes::put_u32(out, at, form_of(r.mark, edges));
-    bytes::put_u32(out, b, r.len);
-    bytes::put_u32(out, c, pre_of(edges));
-    bytes::put_u32(out, d, inner_of(edges));
-    bytes::put_u32(out, e, post_of(edges));
+    known::put_u32(out, at, form_of(r.mark, edges));
+    known::put_u32(out, b, r.len);
+    known::put_u32(out, c, pre_of(edges));
+    known::put_u32(out, d, inner_of(edges));
+    known::put_u32(out, e, post_of(edges));
 }
 
 // A run put from `at` on: 56 bytes.
 fn put_run(out: &mut [u8], at: usize, r: Run)
-    requires { ⌜ at ≤ 512 ⌝ }
+    requires { ⌜ at + 56 ≤ length (now out) ⌝ }
     ensures { λ v. ⌜ now (out .exit) ≡ sets (now (out .entry)) at (runBytes r) ⌝ }
 {
     let b = at + 20;
@@ -122,7 +123,7 @@ fn label_word(l: Label) -> u32
 
 // A middle put from `at` on: 96 bytes.
 fn put_middle(out: &mut [u8], at: usize, m: Middle)
-    requires { ⌜ at ≤ 512 ⌝ }
+    requires { ⌜ at + 96 ≤ length (now out) ⌝ }
     ensures { λ v. ⌜ now (out .exit) ≡ sets (now (out .entry)) at (middleBytes m) ⌝ }
 {
     let b = at + 4;
@@ -131,8 +132,8 @@ fn put_middle(out: &mut [u8], at: usize, m: Middle)
     let label = m.label;
     let inherited = m.inherited;
     let available = m.available;
-    bytes::put_u32(out, at, label_word(label));
-    bytes::put_u32(out, b, m.unavailable);
+    known::put_u32(out, at, label_word(label));
+    known::put_u32(out, b, m.unavailable);
     put_figures(out, c, inherited);
     put_figures(out, d, available);
 }
@@ -151,13 +152,13 @@ fn blank_run() -> Run
 
 // The pieces of a track put from `at` on: 216 bytes.
 fn put_pieces(out: &mut [u8], at: usize, kind: u64, first: Run, m: Middle, last: Run)
-    requires { ⌜ at ≤ 256 ⌝ }
+    requires { ⌜ at + 216 ≤ length (now out) ⌝ }
     ensures { λ v. ⌜ now (out .exit) ≡ sets (now (out .entry)) at (pieceBytes kind first m last) ⌝ }
 {
     let b = at + 8;
     let c = b + 56;
     let d = c + 96;
-    bytes::put_u64(out, at, kind);
+    known::put_u64(out, at, kind);
     put_run(out, b, first);
     put_middle(out, c, m);
     put_run(out, d, last);
@@ -165,7 +166,7 @@ fn put_pieces(out: &mut [u8], at: usize, kind: u64, first: Run, m: Middle, last:
 
 // A track put from `at` on: 216 bytes. What it does not have leaves 0.
 pub fn put_track(out: &mut [u8], at: usize, t: Track)
-    requires { ⌜ at ≤ 256 ⌝ }
+    requires { ⌜ at + 216 ≤ length (now out) ⌝ }
     ensures { λ v. ⌜ now (out .exit) ≡ sets (now (out .entry)) at (trackBytes t) ⌝ }
 {
     match t {

@@ -10,4 +10,5 @@ pub mod Rules
 pub mod Sequences
 pub mod SettingsRecord
 pub mod Window
+pub mod Words
 pub mod Zeros

@@ -5,7 +5,7 @@ ghost use Prim.Native.Nat.{_+_, _*_};
 ghost use mathlib.Core.List.{[], _∷_};
 ghost use lib.ListN.{getD, set};
 ghost use lib.Seq.{sets};
-ghost use Rattle.records.specs.Bytes.{number, numberAt, bytesOf, areZero};
+ghost use Rattle.records.specs.Bytes.{number, numberAt, bytesOf};
 
 // The byte at `i`.
 pub fn get_u8(s: &[u8], i: usize) -> u8
@@ -39,33 +39,15 @@ pub fn get_u64(s: &[u8], i: usize) -> u64
     of_halves(get_u32(s, i), get_u32(s, i + 4))
 }
 
-// Whether the `count` bytes from `i` on are 0.
-pub fn are_zero(s: &[u8], i: usize, count: usize) -> bool
-    ensures { λ r. ⌜ r ≡ areZero count (now (s .entry)) i ⌝ }
-{
-    let mut all = true;
-    let mut at = i;
-    let mut left = count;
-    while 0 < left {
-        if s.len() <= at {
-            return all;
-        }
-        all = all & (s[at] == 0);
-        at += 1;
-        left -= 1;
-    }
-    all
-}
-
 // Four bytes, the lowest first, as a number.
-fn of_four(a: u8, b: u8, c: u8, d: u8) -> u32
+pub fn of_four(a: u8, b: u8, c: u8, d: u8) -> u32
     ensures { λ r. ⌜ r ≡ number (a ∷ b ∷ c ∷ d ∷ []) ⌝ }
 {
     a as u32 + 256 * (b as u32) + 65_536 * (c as u32) + 16_777_216 * (d as u32)
 }
 
 // Two halves, the low one first, as a number.
-fn of_halves(low: u32, high: u32) -> u64
+pub fn of_halves(low: u32, high: u32) -> u64
     ensures { λ r. ⌜ r ≡ low + 4294967296 * high ⌝ }
 {
     low as u64 + 4_294_967_296 * (high as u64)

@@ -1,7 +1,8 @@
 // The frame record, 16 bytes.
-use crate::bytes;
+use crate::known;
 use crate::limits;
 ghost use mathlib.Core.Path.{_≡_};
+ghost use lib.ListN.{length};
 ghost use Rattle.records.specs.Frame.{frameIn, frameOf};
 
 pub struct Frame {
@@ -17,18 +18,19 @@ pub enum FrameRead {
     Invalid,
 }
 
-// The values that stand in `s`.
+// The values that stand in 16 bytes.
 fn frame_in(s: &[u8]) -> Frame
+    requires { ⌜ length (now s) ≡ 16 ⌝ }
     ensures { λ r. ⌜ r ≡ frameIn (now (s .entry)) ⌝ }
 {
     Frame {
-        time: bytes::get_u64(s, 0),
-        delay: bytes::get_u32(s, 8),
-        lost: bytes::get_u8(s, 12) == 1,
+        time: known::get_u64(s, 0),
+        delay: known::get_u32(s, 8),
+        lost: s[12] == 1,
     }
 }
 
-// The frame in `s`, if it is 16 bytes and meets every rule.
+// The frame in `s`, if it is 16 bytes and meets every rule. The state and the spare bytes are one number, 0 or 1.
 pub fn read(s: &[u8]) -> FrameRead
     ensures { λ r. ⌜ r ≡ frameOf (now (s .entry)) ⌝ }
 {
@@ -37,8 +39,7 @@ pub fn read(s: &[u8]) -> FrameRead
     }
     let v = frame_in(s);
     if (v.delay <= limits::LARGEST_DELAY)
-        & (bytes::get_u8(s, 12) <= 1)
-        & bytes::are_zero(s, 13, 3)
+        & (known::get_u32(s, 12) <= 1)
         & (!v.lost | (v.delay == 0))
     {
         FrameRead::Valid(v)

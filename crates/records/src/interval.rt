@@ -1,5 +1,6 @@
 // The interval record, 48 bytes: its values, its rules, read and written; and a slice of many of them.
 use crate::bytes;
+use crate::known;
 use crate::limits;
 use crate::many;
 use crate::refusal::Fault;
@@ -8,6 +9,7 @@ use crate::room;
 ghost use mathlib.Core.Path.{_≡_};
 ghost use Prim.Native.Nat.{_-_, _*_};
 ghost use mathlib.Core.Bool.{cond};
+ghost use lib.ListN.{length};
 ghost use lib.Seq.{sets};
 ghost use Rattle.records.specs.Many.{recordAt};
 ghost use Rattle.records.specs.Room.{Written};
@@ -36,21 +38,22 @@ pub enum IntervalRead {
     Invalid,
 }
 
-// The values that stand in `s`.
+// The values that stand in 48 bytes.
 fn interval_in(s: &[u8]) -> Interval
+    requires { ⌜ length (now s) ≡ 48 ⌝ }
     ensures { λ r. ⌜ r ≡ intervalIn (now (s .entry)) ⌝ }
 {
     Interval {
-        number: bytes::get_u32(s, 0),
-        sent: bytes::get_u32(s, 4),
-        lost: bytes::get_u32(s, 8),
-        late: bytes::get_u32(s, 12),
-        pairs: bytes::get_u32(s, 16),
-        jumpy: bytes::get_u32(s, 20),
-        sum: bytes::get_u64(s, 24),
-        least: bytes::get_u32(s, 32),
-        most: bytes::get_u32(s, 36),
-        maintenance: bytes::get_u8(s, 40) == 1,
+        number: known::get_u32(s, 0),
+        sent: known::get_u32(s, 4),
+        lost: known::get_u32(s, 8),
+        late: known::get_u32(s, 12),
+        pairs: known::get_u32(s, 16),
+        jumpy: known::get_u32(s, 20),
+        sum: known::get_u64(s, 24),
+        least: known::get_u32(s, 32),
+        most: known::get_u32(s, 36),
+        maintenance: s[40] == 1,
     }
 }
 
@@ -81,21 +84,21 @@ fn counts_meet(v: Interval) -> bool
         & ((v.pairs < got) | ((got == 0) & (v.pairs == 0)))
 }
 
-// Whether the delays meet document 01's rules.
+// Whether the delays meet document 01's rules. With nothing delivered both products are 0, so that with most 0 the others are 0 too.
 fn delays_meet(v: Interval) -> bool
     ensures { λ r. ⌜ r ≡ delaysMeet v ⌝ }
 {
     let got = delivered(v);
     let low = times(v.least, got);
     let high = times(v.most, got);
-    if got == 0 {
-        (v.sum == 0) & (v.least == 0) & (v.most == 0)
-    } else {
-        (v.least <= v.most) & (v.most <= limits::LARGEST_DELAY) & (low <= v.sum) & (v.sum <= high)
-    }
+    ((got != 0) | (v.most == 0))
+        & (v.least <= v.most)
+        & (v.most <= limits::LARGEST_DELAY)
+        & (low <= v.sum)
+        & (v.sum <= high)
 }
 
-// The interval in `s`, if it is 48 bytes and meets every rule.
+// The interval in `s`, if it is 48 bytes and meets every rule. Maintenance and the spare bytes are one word, 0 or 1.
 pub fn read(s: &[u8]) -> IntervalRead
     ensures { λ r. ⌜ r ≡ intervalOf (now (s .entry)) ⌝ }
 {
@@ -103,7 +106,7 @@ pub fn read(s: &[u8]) -> IntervalRead
         return IntervalRead::Invalid;
     }
     let v = interval_in(s);
-    if counts_meet(v) & delays_meet(v) & (bytes::get_u8(s, 40) <= 1) & bytes::are_zero(s, 41, 7) {
+    if counts_meet(v) & delays_meet(v) & (known::get_u64(s, 40) <= 1) {
         IntervalRead::Valid(v)
     } else {
         IntervalRead::Invalid

@@ -2,6 +2,7 @@
 pub mod bytes;
 pub mod frame;
 pub mod interval;
+pub mod known;
 pub mod limits;
 pub mod many;
 pub mod refusal;

@@ -8,4 +8,3 @@ pub mod Made
 pub mod Placing
 pub mod RoundTrip
 pub mod Validity
-pub mod Zeroing

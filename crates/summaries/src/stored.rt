@@ -1,7 +1,7 @@
 // A summary in its 1,024 bytes.
 use layout::reading;
 use layout::writing;
-use records::bytes;
+use records::known;
 use records::limits;
 use records::settings;
 use records::settings::LabelSettings;
@@ -9,9 +9,6 @@ use runs::figures;
 use tracks::Track;
 ghost use mathlib.Core.Path.{_≡_};
 ghost use lib.ListN.{length};
-ghost use lib.Seq.{sets};
-ghost use Prim.Native.Nat.{_≤_};
-ghost use Rattle.records.specs.Bytes.{bytesOf};
 ghost use Rattle.summaries.specs.Stored.{summaryIn, headerMeets, tracksMeet, summaryOf, summaryBytes};
 
 // A stretch: its first number, the number after its last, and what its tracks hold under the label settings.
@@ -34,8 +31,8 @@ fn summary_in(s: &[u8]) -> Summary
     ensures { λ r. ⌜ r ≡ summaryIn (now (s .entry)) ⌝ }
 {
     Summary {
-        first: bytes::get_u32(s, 0),
-        after: bytes::get_u32(s, 4),
+        first: known::get_u32(s, 0),
+        after: known::get_u32(s, 4),
         label: settings::label_in(&s[8..32]),
         loss: reading::track_in(s, 32),
         composite: reading::track_in(s, 248),
@@ -44,16 +41,17 @@ fn summary_in(s: &[u8]) -> Summary
 
 // Whether the header, the words of both tracks and the spare bytes meet their rules.
 fn header_meets(s: &[u8], v: Summary) -> bool
+    requires { ⌜ length (now s) ≡ 1024 ⌝ }
     ensures { λ r. ⌜ r ≡ headerMeets (now (s .entry)) v ⌝ }
 {
     let l = v.label;
     (v.first <= v.after)
         & (v.after <= limits::INTERVALS)
         & settings::label_meets(l)
-        & (bytes::get_u8(s, 15) == 0)
+        & (s[15] == 0)
         & reading::words_meet(s, 32)
         & reading::words_meet(s, 248)
-        & bytes::are_zero(s, 464, 560)
+        & known::are_zero(s, 464, 560)
 }
 
 // Whether both tracks meet their rules, and count the same intervals.
@@ -87,16 +85,6 @@ pub fn read(s: &[u8]) -> SummaryRead
     }
 }
 
-// As many zeros as `count` put from `at` on.
-fn put_zeros(out: &mut [u8], at: usize, count: usize)
-    requires { ⌜ (at ≤ 1024) × (count ≤ 1024) ⌝ }
-    ensures { λ r. ⌜ now (out .exit) ≡ sets (now (out .entry)) at (bytesOf count 0) ⌝ }
-{
-    for k in 0..count {
-        bytes::put_u8(out, at + k, 0);
-    }
-}
-
 // A summary's 1,024 bytes put into `part`.
 pub fn put(part: &mut [u8], v: Summary)
     requires { ⌜ length (now part) ≡ 1024 ⌝ }
@@ -105,10 +93,10 @@ pub fn put(part: &mut [u8], v: Summary)
     let l = v.label;
     let loss = v.loss;
     let composite = v.composite;
-    bytes::put_u32(part, 0, v.first);
-    bytes::put_u32(part, 4, v.after);
+    known::put_u32(part, 0, v.first);
+    known::put_u32(part, 4, v.after);
     settings::put_label(&mut part[8..32], l);
     writing::put_track(part, 32, loss);
     writing::put_track(part, 248, composite);
-    put_zeros(part, 464, 560);
+    known::put_zeros(part, 464, 560);
 }

@@ -12,12 +12,12 @@ get-u64-requires c κs = search needs
 get-u32-requires : tie.Need-get-u32-requires
 get-u32-requires c κs = search needs
 
-get-u8-requires : tie.Need-get-u8-requires
-get-u8-requires c κs = search needs
+shared-slice-read-t5 : tie.Need-shared-slice-read-t5
+shared-slice-read-t5 c = search needs
 
 returns : tie.Need-returns
 unfolding frameIn
-returns c = rw (c .before .before .get-u64 .ensures, c .before .get-u32 .ensures, c .get-u8 .ensures) refl
+returns c = rw (c .before .before .get-u64 .ensures, c .before .get-u32 .ensures) refl
 
 pub frame-in-spec : {M : Type 1} → statement M
-frame-in-spec = tie.close (tie.spec get-u64-requires get-u32-requires get-u8-requires returns)
+frame-in-spec = tie.close (tie.spec get-u64-requires get-u32-requires shared-slice-read-t5 returns)

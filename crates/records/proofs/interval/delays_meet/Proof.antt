@@ -1,12 +1,26 @@
-use mathlib.Core.Path.{sym, _∙_}
--- `records::interval::delays_meet` meets its contract: the rules of the case that holds, one after the other.
+-- `records::interval::delays_meet` meets its contract: with nothing delivered the products are 0, and then the rules of the one case are those of
+-- the other and most 0.
 -- Assumes nothing.
+use mathlib.Core.Path.{_≡_, refl}
+use mathlib.Core.Bool.{_&&_, _||_, not, cond, and-false}
+use Prim.Native.Nat.{ℕ, zero, suc, _-_, _*_}
+use lib.Dec.{leb, eqb, leb·zero, leb·suc-zero, eqb·suc-zero}
 use Rattle.records.specs.Interval.{delayRules, delaysMeet, noDelayRules}
 use Rattle.records.specs.Limits.{largestDelay}
-use borrow.Author.Tests.{eq-eqb, ne-eqb}
 use borrow.Author.Needs.{needs}
 use Rattle.records.proofs.interval.delays_meet.Statement.{statement}
 use Rattle.records.proofs.interval.delays_meet.Tie as tie
+
+-- where nothing is delivered: most, least and the sum are 0 or not
+one-case :
+    (got least most sum : ℕ) →
+    (not (eqb got 0) || eqb most 0) && leb least most && leb most 1000000000 && leb (least * got) sum && leb sum (most * got)
+    ≡ cond (eqb got 0) (eqb sum 0 && eqb least 0 && eqb most 0) (leb least most && leb most 1000000000 && leb (least * got) sum && leb sum (most * got))
+one-case (suc got) least most sum = simp eqb·suc-zero
+one-case zero least (suc most) sum = simp (eqb·suc-zero, and-false)
+one-case zero (suc least) zero sum = simp (eqb·suc-zero, leb·suc-zero, and-false)
+one-case zero zero zero zero = refl
+one-case zero zero zero (suc sum) = simp (eqb·suc-zero, leb·suc-zero, leb·zero)
 
 delivered-requires : tie.Need-delivered-requires
 delivered-requires c κs = search needs
@@ -18,14 +32,9 @@ times-requires-2 : tie.Need-times-requires-2
 times-requires-2 c κs = search needs
 
 returns : tie.Need-returns
-unfolding delaysMeet noDelayRules
-returns c = let none = sym (c .before .before .before .before .before .before .delivered .ensures) ∙ c .before .before .before .if1 .taken in
-    simp (eq-eqb _ 0 none)
-
-returns-2 : tie.Need-returns-2
-unfolding delaysMeet delayRules largestDelay
-returns-2 c = rw (c .before .before .before .before .before .before .times .ensures, c .before .before .before .before .before .times2 .ensures, c .before .before .before .before .before .before .before .delivered .ensures) (simp (ne-eqb _ 0 (λ h. c .before .before .before .before .if1 .left (c .before .before .before .before .before .before .before .delivered .ensures ∙ h))))
+unfolding delaysMeet delayRules noDelayRules largestDelay
+returns c = let v = c .before .before .before .before .before .before .before .before .args .v in
+    rw (c .before .before .before .before .before .before .times .ensures, c .before .before .before .before .before .times2 .ensures, c .before .before .before .before .before .before .before .delivered .ensures) (one-case (v .sent - v .lost) (v .least) (v .most) (v .sum))
 
 pub delays-meet-spec : {M : Type 1} → statement M
-delays-meet-spec =
-    tie.close (tie.spec delivered-requires times-requires times-requires-2 returns returns-2)
+delays-meet-spec = tie.close (tie.spec delivered-requires times-requires times-requires-2 returns)

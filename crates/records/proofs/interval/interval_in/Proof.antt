@@ -33,12 +33,12 @@ get-u32-requires-7 c κs = search needs
 get-u32-requires-8 : tie.Need-get-u32-requires-8
 get-u32-requires-8 c κs = search needs
 
-get-u8-requires : tie.Need-get-u8-requires
-get-u8-requires c κs = search needs
+shared-slice-read-t12 : tie.Need-shared-slice-read-t12
+shared-slice-read-t12 c = search needs
 
 returns : tie.Need-returns
 unfolding intervalIn
-returns c = rw (c .before .before .before .before .before .before .before .before .before .get-u32 .ensures, c .before .before .before .before .before .before .before .before .get-u322 .ensures, c .before .before .before .before .before .before .before .get-u323 .ensures, c .before .before .before .before .before .before .get-u324 .ensures, c .before .before .before .before .before .get-u325 .ensures, c .before .before .before .before .get-u326 .ensures, c .before .before .before .get-u64 .ensures, c .before .before .get-u327 .ensures, c .before .get-u328 .ensures, c .get-u8 .ensures)
+returns c = rw (c .before .before .before .before .before .before .before .before .before .get-u32 .ensures, c .before .before .before .before .before .before .before .before .get-u322 .ensures, c .before .before .before .before .before .before .before .get-u323 .ensures, c .before .before .before .before .before .before .get-u324 .ensures, c .before .before .before .before .before .get-u325 .ensures, c .before .before .before .before .get-u326 .ensures, c .before .before .before .get-u64 .ensures, c .before .before .get-u327 .ensures, c .before .get-u328 .ensures)
     refl
 
 pub interval-in-spec : {M : Type 1} → statement M
@@ -54,5 +54,5 @@ interval-in-spec =
     get-u64-requires
     get-u32-requires-7
     get-u32-requires-8
-    get-u8-requires
+    shared-slice-read-t12
     returns)

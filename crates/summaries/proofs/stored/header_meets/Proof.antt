@@ -10,8 +10,8 @@ use Rattle.summaries.proofs.stored.header_meets.Tie as tie
 label-meets-requires : tie.Need-label-meets-requires
 label-meets-requires c κs = search needs
 
-get-u8-requires : tie.Need-get-u8-requires
-get-u8-requires c κs = search needs
+shared-slice-read-result : tie.Need-shared-slice-read-result
+shared-slice-read-result c = search needs
 
 words-meet-requires : tie.Need-words-meet-requires
 words-meet-requires c κs = search needs
@@ -24,14 +24,14 @@ are-zero-requires c κs = search needs
 
 returns : tie.Need-returns
 unfolding headerMeets headerRules intervals
-returns c = rw (c .are-zero .ensures, c .before .words-meet2 .ensures, c .before .before .words-meet .ensures, c .before .before .before .get-u8 .ensures, c .before .before .before .before .label-meets .ensures) refl
+returns c = rw (c .are-zero .ensures, c .before .words-meet2 .ensures, c .before .before .words-meet .ensures, c .before .before .before .before .label-meets .ensures) refl
 
 pub header-meets-spec : {M : Type 1} → statement M
 header-meets-spec =
     tie.close
     (tie.spec
     label-meets-requires
-    get-u8-requires
+    shared-slice-read-result
     words-meet-requires
     words-meet-requires-2
     are-zero-requires
