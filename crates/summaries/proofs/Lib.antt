@@ -7,4 +7,5 @@ pub mod Judging
 pub mod Made
 pub mod Placing
 pub mod RoundTrip
+pub mod Segments
 pub mod Validity

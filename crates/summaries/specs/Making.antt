@@ -20,6 +20,7 @@ use Rattle.records.specs.declared.refusal.Fault.{Fault}
 use Rattle.records.specs.declared.settings.LabelSettings.{LabelSettings}
 use Rattle.records.specs.declared.settings.SettingsRead.{SettingsRead}
 use Rattle.labels.specs.Stretch.{intervalsOf}
+use Rattle.runs.specs.declared.run.Edges.the-variants.{Split}
 use Rattle.runs.specs.declared.run.Run.{Run}
 use Rattle.runs.specs.Valid.{RunValid}
 use Rattle.tallies.specs.Seen.{lossSeen, compositeSeen}
@@ -96,11 +97,14 @@ madeWith l first next a b vs =
 unfoldable pub onwards : LabelSettings → ℕ → ℕ → ℕ → Track → Track → List IntervalRead → Gathered
 onwards l first next place a b xs = goodIf (checked next place xs) (madeWith l first next a b (intervalsOf xs))
 
--- the runs of one valid interval, from which a loop goes on
-pub record Begun (l : LabelSettings) (first : ℕ) (a b : Run) : Type 0 where
+-- a segment, intervals in a row in which no mark changes, is kept as a run of high marks: it as a run of a track that has this mark in it
+unfoldable pub toned : Bool → Run → Run
+toned m g = record { mark = m; len = g .len; load = g .load; edges = cond m (g .edges) (Split 0 0 0) }
+
+-- the segment of one valid interval, from which a loop goes on
+pub record Begun (l : LabelSettings) (first : ℕ) (g : Run) : Type 0 where
   pub valid : labelMeets l ≡ true
   pub known : first < intervals
-  pub loss : RunValid (l .p) a
-  pub loss-one : a .len ≡ 1
-  pub composite : RunValid (l .p) b
-  pub composite-one : b .len ≡ 1
+  pub segment : RunValid (l .p) g
+  pub one : g .len ≡ 1
+  pub high : g .mark ≡ true

@@ -1,8 +1,9 @@
-// Making the summary of a stretch, in one pass over its records. Beside each track's last run stands what is before it, which only a
-// change of mark touches.
+// Making the summary of a stretch, in one pass over its records. A segment, the records in a row in which neither mark changes, is one run
+// for both tracks; only where a mark changes is it put behind them.
 use crate::stored;
 use crate::stored::Summary;
 use labels::marks;
+use labels::marks::Both;
 use records::interval;
 use records::interval::Interval;
 use records::interval::IntervalRead;
@@ -16,20 +17,19 @@ use records::settings;
 use records::settings::LabelSettings;
 use records::settings::SettingsRead;
 use runs::run;
+use runs::run::Edges;
 use runs::run::Run;
-use tracks::Front;
 use tracks::Track;
 ghost use mathlib.Core.Path.{_≡_};
-ghost use mathlib.Core.Bool.{true, cond};
+ghost use mathlib.Core.Bool.{true};
 ghost use Prim.Native.Nat.{_+_, _-_, _≤_};
 ghost use Rattle.records.specs.Limits.{intervals};
 ghost use Rattle.records.specs.Refusals.{refusal};
 ghost use Rattle.records.specs.Sequence.{readsFrom};
 ghost use Rattle.records.specs.Settings.{labelMeets};
 ghost use Rattle.tallies.specs.Seen.{markedAs};
-ghost use Rattle.runs.specs.Runs.{single, glue, same};
-ghost use Rattle.runs.specs.Valid.{RunsFit};
-ghost use Rattle.summaries.specs.Making.{gathered, onwards, Begun, Outcome};
+ghost use Rattle.runs.specs.Runs.{single};
+ghost use Rattle.summaries.specs.Making.{gathered, onwards, toned, Begun, Outcome};
 
 // A summary, or why there is none.
 pub enum Gathered {
@@ -49,15 +49,17 @@ fn run_of(mark: bool, v: Interval) -> Run
     run::single(rules::marked(mark, v))
 }
 
-// The last run when the run `r` has come behind `t`.
-fn last_after(p: u32, t: Run, r: Run) -> Run
-    requires { ⌜ RunsFit t r ⌝ }
-    ensures { λ x. ⌜ x ≡ cond (same t r) (glue p t r) r ⌝ }
+// A segment, kept as a run of high marks, as the run of a track that has this mark in it.
+fn toned(mark: bool, g: Run) -> Run
+    ensures { λ r. ⌜ r ≡ toned mark g ⌝ }
 {
-    if run::same(t, r) {
-        run::glue(p, t, r)
-    } else {
-        r
+    let load = g.load;
+    let edges = if mark { g.edges } else { Edges::Split(0, 0, 0) };
+    Run {
+        mark,
+        len: g.len,
+        load,
+        edges,
     }
 }
 
@@ -67,17 +69,17 @@ fn bad(fault: Fault, place: u64) -> Gathered
     Gathered::Bad(Refusal { fault, place })
 }
 
-// The summary of the `n` records of `s`, the first of which has made the runs `a` and `b`; or the first record that is at fault.
-fn go_on(l: LabelSettings, s: &[u8], n: usize, first: u32, a: Run, b: Run) -> Gathered
-    requires { ⌜ Begun l first a b ⌝ }
-    ensures { λ r. ⌜ r ≡ onwards l first (first + 1) 1 (Track.One a) (Track.One b) (readsFrom (n - 1) (now (s .entry)) 1) ⌝ }
+// The summary of the `n` records of `s`, the first of which has these marks and is the segment `start`; or the first record that is at fault.
+fn go_on(l: LabelSettings, s: &[u8], n: usize, first: u32, start: Run, begun: Both) -> Gathered
+    requires { ⌜ Begun l first start ⌝ }
+    ensures { λ r. ⌜ r ≡ onwards l first (first + 1) 1 (Track.One (toned (begun .loss) start)) (Track.One (toned (begun .composite) start)) (readsFrom (n - 1) (now (s .entry)) 1) ⌝ }
 {
     let w = l.n as u32;
     let p = l.p as u32;
-    let mut loss_front = Front::Alone;
-    let mut loss_last = a;
-    let mut composite_front = Front::Alone;
-    let mut composite_last = b;
+    let mut loss = Track::Nothing;
+    let mut composite = Track::Nothing;
+    let mut segment = start;
+    let mut high = begun;
     let mut next = first + 1;
     let mut k: usize = 1;
     while k < n {
@@ -87,17 +89,16 @@ fn go_on(l: LabelSettings, s: &[u8], n: usize, first: u32, a: Run, b: Run) -> Ga
         if v.number != next {
             return bad(Fault::Order, k as u64);
         }
+        let x = run_of(true, v);
         let m = marks::marks(l, v);
-        let x = run_of(m.loss, v);
-        let y = run_of(m.composite, v);
-        if !run::same(loss_last, x) {
-            loss_front = tracks::turned(w, p, loss_front, loss_last);
+        if (m.loss == high.loss) & (m.composite == high.composite) {
+            segment = run::glue(p, segment, x);
+        } else {
+            loss = tracks::push(w, p, loss, toned(high.loss, segment));
+            composite = tracks::push(w, p, composite, toned(high.composite, segment));
+            segment = x;
+            high = m;
         }
-        loss_last = last_after(p, loss_last, x);
-        if !run::same(composite_last, y) {
-            composite_front = tracks::turned(w, p, composite_front, composite_last);
-        }
-        composite_last = last_after(p, composite_last, y);
         next += 1;
         k += 1;
     }
@@ -105,8 +106,8 @@ fn go_on(l: LabelSettings, s: &[u8], n: usize, first: u32, a: Run, b: Run) -> Ga
         first,
         after: next,
         label: l,
-        loss: tracks::with_last(loss_front, loss_last),
-        composite: tracks::with_last(composite_front, composite_last),
+        loss: tracks::push(w, p, loss, toned(high.loss, segment)),
+        composite: tracks::push(w, p, composite, toned(high.composite, segment)),
     })
 }
 
@@ -131,8 +132,7 @@ pub fn gather(l: LabelSettings, s: &[u8], first: u32) -> Gathered
     if v.number != first {
         return bad(Fault::Order, 0);
     }
-    let m = marks::marks(l, v);
-    go_on(l, s, n, first, run_of(m.loss, v), run_of(m.composite, v))
+    go_on(l, s, n, first, run_of(true, v), marks::marks(l, v))
 }
 
 fn refused(fault: Fault) -> Made

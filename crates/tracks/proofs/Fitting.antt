@@ -11,12 +11,10 @@ use Rattle.runs.specs.Middles.{shut, times}
 use Rattle.runs.specs.Valid.{RunValid, MiddleFits, spanOf, RunsFit, MiddlesFit}
 use Rattle.runs.proofs.Keeping.{none-valid, placed-fits, shut-valid, times-fits}
 use Rattle.runs.proofs.Fitting.{runs-fit, middles-fit, span-fits}
-use Rattle.tracks.specs.declared.Front.{Front}
-use Rattle.tracks.specs.declared.Front.the-variants.{After}
 use Rattle.tracks.specs.declared.Track.{Track}
 use Rattle.tracks.specs.declared.Track.the-variants.{One, Many}
-use Rattle.tracks.specs.Tracks.{push, withLast, start}
-use Rattle.tracks.specs.Valid.{ManyValid, TrackValid, PushFits, GraftFits, JoinFits, FinishFits, TrackFits, TurnFits}
+use Rattle.tracks.specs.Tracks.{push, start}
+use Rattle.tracks.specs.Valid.{ManyValid, TrackValid, PushFits, GraftFits, JoinFits, FinishFits, TrackFits}
 use Rattle.tracks.proofs.Keeping.{push-valid}
 
 pub start-fits : (p : ℕ) → MiddleFits p 0 start
@@ -55,21 +53,6 @@ module _ (n p : ℕ) where
   pub push-times : (a : Track) (r l : Run) (m : Middle) (t : Run) → PushFits n p a r → a ≡ Many l m t → MiddlesFit m (shut n p t)
   push-times a r l m t h e =
       let v : ManyValid n p (h .i) l m t = many-of (h .i) a l m t (h .left) e in
-      middles-fit p (v .size) (t .len) m (shut n p t) (v .middle .figures) (shut-valid n p t (v .last) .figures) (omega (arith, v .lengths, h .room))
-
-  -- what `turned` asks
-  turn-many : (f : Front) (l : Run) (m : Middle) (t : Run) (h : TurnFits n p f t) → f ≡ After l m → ManyValid n p (h .i) l m t
-  unfolding TrackValid withLast
-  turn-many f l m t h e = subst (λ z. TrackValid n p (h .i) (withLast z t)) e (h .valid)
-
-  pub turn-shuts : (f : Front) (l : Run) (m : Middle) (t : Run) → TurnFits n p f t → f ≡ After l m → spanOf (t .edges) < 4294967294
-  turn-shuts f l m t h e =
-      let v : ManyValid n p (h .i) l m t = turn-many f l m t h e in
-      span-fits p t (v .last) (omega (arith, v .lengths, h .room))
-
-  pub turn-times : (f : Front) (l : Run) (m : Middle) (t : Run) → TurnFits n p f t → f ≡ After l m → MiddlesFit m (shut n p t)
-  turn-times f l m t h e =
-      let v : ManyValid n p (h .i) l m t = turn-many f l m t h e in
       middles-fit p (v .size) (t .len) m (shut n p t) (v .middle .figures) (shut-valid n p t (v .last) .figures) (omega (arith, v .lengths, h .room))
 
   -- what `graft` asks

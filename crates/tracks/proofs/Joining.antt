@@ -7,13 +7,11 @@ use Prim.Native.Nat.{ℕ}
 use Rattle.tallies.specs.declared.Marked.{Marked}
 use Rattle.runs.specs.declared.run.Run.{Run}
 use Rattle.runs.specs.declared.middles.Middle.{Middle}
-use Rattle.tracks.specs.declared.Front.{Front}
-use Rattle.tracks.specs.declared.Front.the-variants.{Alone, After}
 use Rattle.tracks.specs.declared.Track.{Track}
 use Rattle.tracks.specs.declared.Track.the-variants.{Nothing, One, Many}
 use Rattle.runs.specs.Runs.{single, loadOf, maintained, glue, same, quietRun}
 use Rattle.runs.specs.Middles.{unit, shut, times, quietMiddle}
-use Rattle.tracks.specs.Tracks.{push, withLast, turned, graft, join, pushAll, summary, quiet}
+use Rattle.tracks.specs.Tracks.{push, graft, join, pushAll, summary, quiet}
 use Rattle.runs.proofs.Tying.{glue-assoc, same-glue-left, same-glue-right, same-trans, quiet-glue, quiet-same}
 use Rattle.runs.proofs.Placing.{times-unit, times-assoc, quiet-shut, quiet-times}
 
@@ -46,15 +44,8 @@ module _ (n p : ℕ) where
       by true = tt
       by false = tt
 
-  -- while the mark stays only the last run changes, and else what stands before it
-  pub push-last : (f : Front) (t r : Run)
-      → push n p (withLast f t) r ≡ cond (same t r) (withLast f (glue p t r)) (withLast (turned n p f t) r)
-  unfolding push withLast turned
-  push-last Alone t r = refl
-  push-last (After l m) t r = refl
-
   -- a run and one of its mark behind it may be glued first
-  push-glue : (a : Track) (s r : Run) → same s r ≡ true → push n p (push n p a s) r ≡ push n p a (glue p s r)
+  pub push-glue : (a : Track) (s r : Run) → same s r ≡ true → push n p (push n p a s) r ≡ push n p a (glue p s r)
   unfolding push
   push-glue Nothing s r e = rw e
   push-glue (One t) s r e = by (same t s) refl

@@ -9,8 +9,6 @@ use Rattle.runs.specs.declared.run.Run.{Run}
 use Rattle.runs.specs.declared.middles.Label.{Label}
 use Rattle.runs.specs.declared.middles.Label.the-variants.{Inherits, Says}
 use Rattle.runs.specs.declared.middles.Middle.{Middle}
-use Rattle.tracks.specs.declared.Front.{Front}
-use Rattle.tracks.specs.declared.Front.the-variants.{Alone, After}
 use Rattle.tracks.specs.declared.Track.{Track}
 use Rattle.tracks.specs.declared.Track.the-variants.{Nothing, One, Many}
 use Rattle.tracks.specs.declared.Outcome.{Outcome}
@@ -36,16 +34,6 @@ unfoldable pub join : ℕ → ℕ → Track → Track → Track
 join n p a Nothing = a
 join n p a (One r) = push n p a r
 join n p a (Many l m t) = graft n p (push n p a l) m t
-
--- a track is what stands before its last run, and that run
-unfoldable pub withLast : Front → Run → Track
-withLast Alone t = One t
-withLast (After l m) t = Many l m t
-
--- what stands before a run of the other mark behind them: the last run is shut
-unfoldable pub turned : ℕ → ℕ → Front → Run → Front
-turned n p Alone t = After t unit
-turned n p (After l m) t = After l (times m (shut n p t))
 
 -- a track and the intervals behind it
 unfoldable pub pushAll : ℕ → ℕ → Track → List Marked → Track

@@ -8,11 +8,9 @@ use Rattle.runs.specs.declared.run.Run.{Run}
 use Rattle.runs.specs.declared.middles.Label.the-variants.{Says}
 use Rattle.runs.specs.declared.middles.Middle.{Middle}
 use Rattle.runs.specs.Runs.{one}
-use Rattle.tracks.specs.declared.Front.{Front}
 use Rattle.tracks.specs.declared.Track.{Track}
 use Rattle.tracks.specs.declared.Track.the-variants.{Nothing, One, Many}
 use Rattle.runs.specs.Valid.{RunValid, MiddleFits, MiddleValid}
-use Rattle.tracks.specs.Tracks.{withLast}
 
 -- the high intervals of a middle and its high loss runs
 unfoldable pub busy : Middle → ℕ
@@ -68,9 +66,4 @@ pub record FinishFits (p : ℕ) (m : Middle) (t : Run) : Type 0 where
 pub record TrackFits (n p : ℕ) (t : Track) : Type 0 where
   pub i : ℕ
   pub valid : TrackValid n p i t
-  pub room : i ≤ intervals
-
-pub record TurnFits (n p : ℕ) (f : Front) (t : Run) : Type 0 where
-  pub i : ℕ
-  pub valid : TrackValid n p i (withLast f t)
   pub room : i ≤ intervals

@@ -9,21 +9,14 @@ use runs::run::Run;
 use tallies::Tally;
 ghost use mathlib.Core.Path.{_≡_};
 ghost use Prim.Native.Nat.{_<_};
-ghost use Rattle.tracks.specs.Tracks.{push, withLast, turned, graft, join, quiet, start, decided, finish, sorted, tallied, whole, countIn};
-ghost use Rattle.tracks.specs.Valid.{PushFits, GraftFits, JoinFits, FinishFits, TrackFits, TurnFits};
+ghost use Rattle.tracks.specs.Tracks.{push, graft, join, quiet, start, decided, finish, sorted, tallied, whole, countIn};
+ghost use Rattle.tracks.specs.Valid.{PushFits, GraftFits, JoinFits, FinishFits, TrackFits};
 
 // Nothing, one run, or a first run, what lies between, and a last run.
 pub enum Track {
     Nothing,
     One(Run),
     Many(Run, Middle, Run),
-}
-
-// What stands before the last run of a track: nothing, or a first run and what lies between. A loop over intervals that keeps it beside
-// the last run touches it only where the mark changes.
-pub enum Front {
-    Alone,
-    After(Run, Middle),
 }
 
 // A known sequence from interval 0: the figures of its available intervals, how many are unavailable, and the figures of those that are
@@ -55,27 +48,6 @@ pub fn push(n: u32, p: u32, a: Track, r: Run) -> Track
                 Track::Many(l, middles::times(m, middles::shut(n, p, t)), r)
             }
         }
-    }
-}
-
-// A track of what stands before its last run, and that run.
-pub fn with_last(f: Front, t: Run) -> Track
-    ensures { λ r. ⌜ r ≡ withLast f t ⌝ }
-{
-    match f {
-        Front::Alone => Track::One(t),
-        Front::After(l, m) => Track::Many(l, m, t),
-    }
-}
-
-// What stands before a run of the other mark: the last run is shut.
-pub fn turned(n: u32, p: u32, f: Front, t: Run) -> Front
-    requires { ⌜ TurnFits n p f t ⌝ }
-    ensures { λ r. ⌜ r ≡ turned n p f t ⌝ }
-{
-    match f {
-        Front::Alone => Front::After(t, middles::unit()),
-        Front::After(l, m) => Front::After(l, middles::times(m, middles::shut(n, p, t))),
     }
 }
 
