@@ -1,7 +1,6 @@
 // Stretches of one interval each, joined from left to right, from right to left and in pairs: each gives the bytes of the uncut stretch.
 use crate::circuit;
 use crate::circuit::RECORDS;
-use crate::output;
 use records::bytes;
 use summaries::joining;
 use summaries::joining::Joined;
@@ -89,21 +88,21 @@ fn grouped(s: &[u8], records: &[u8], count: usize)
     let left = from_left(s, records, count);
     let right = from_right(s, records, count);
     let pairs = in_pairs(s, records, count);
-    output::text(b" ");
-    output::bit(same(&whole, &left));
-    output::bit(same(&whole, &right));
-    output::bit(same(&whole, &pairs));
-    output::number(bytes::get_u32(&whole, 4) as u64);
-    output::text(b"\n");
+    printing::text(b" ");
+    printing::bit(same(&whole, &left));
+    printing::bit(same(&whole, &right));
+    printing::bit(same(&whole, &pairs));
+    printing::number(bytes::get_u32(&whole, 4) as u64);
+    printing::text(b"\n");
 }
 
 fn line(letters: &[u8], n: u8, p: u8) {
     let s = circuit::settings(n, p);
     let mut records = [0u8; RECORDS];
     circuit::put_records(&mut records, letters);
-    output::text(letters);
-    output::number(n as u64);
-    output::number(p as u64);
+    printing::text(letters);
+    printing::number(n as u64);
+    printing::number(p as u64);
     if letters.len() <= 72 {
         grouped(&s, &records, letters.len());
     }
@@ -114,19 +113,21 @@ fn empty(first: u64) {
     let s = circuit::settings(3, 2);
     let mut out = [0u8; 1024];
     let none = [0u8; 0];
-    output::text(b"no records from");
-    output::number(first);
+    printing::text(b"no records from");
+    printing::number(first);
     match making::summary(&s, first, &none, &mut out, 0) {
         Made::Written => {
-            output::text(b": written");
+            printing::text(b": written");
         }
-        Made::Refused(r) => output::refused(r),
+        Made::Refused(r) => printing::refused(r),
     }
-    output::text(b"\n");
+    printing::text(b"\n");
 }
 
 pub fn run() {
-    output::line(b"joined from left, from right, in pairs: the same bytes; number after the last");
+    printing::line(
+        b"joined from left, from right, in pairs: the same bytes; number after the last",
+    );
     line(b"HHH", 3, 2);
     line(b"LHHL", 3, 2);
     line(b"LhHL", 3, 2);

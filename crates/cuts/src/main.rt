@@ -1,7 +1,6 @@
 // Runs document 01's edges on summaries, reports and verdicts on the compiled code and prints what they give; `stdout` is what they must give.
 mod circuit;
 mod joins;
-mod output;
 mod periods_of;
 mod sets_of;
 

@@ -1,7 +1,6 @@
 // Reports of a period between two stretches, and its verdicts.
 use crate::circuit;
 use crate::circuit::RECORDS;
-use crate::output;
 use records::bytes;
 use reports::sets;
 use reports::sets::Judged;
@@ -15,32 +14,32 @@ fn show_loss(r: Period) {
     let t = r.loss;
     let a = t.available;
     let u = t.undecided;
-    output::number(r.length as u64);
-    output::number(r.maintenance as u64);
-    output::text(b" |");
-    output::number(a.count as u64);
-    output::number(t.unavailable as u64);
-    output::number(u.count as u64);
-    output::text(b" |");
-    output::number(a.high as u64);
-    output::number(a.runs as u64);
+    printing::number(r.length as u64);
+    printing::number(r.maintenance as u64);
+    printing::text(b" |");
+    printing::number(a.count as u64);
+    printing::number(t.unavailable as u64);
+    printing::number(u.count as u64);
+    printing::text(b" |");
+    printing::number(a.high as u64);
+    printing::number(a.runs as u64);
 }
 
 fn show_rest(r: Period) {
     let t = r.loss;
     let a = t.available;
     let c = r.composite;
-    output::text(b" |");
-    output::number(a.sent);
-    output::number(a.lost);
-    output::text(b" |");
-    output::number(a.sum);
-    output::number(a.least as u64);
-    output::number(a.most as u64);
-    output::text(b" |");
-    output::number(c.available as u64);
-    output::number(c.unavailable as u64);
-    output::number(c.undecided as u64);
+    printing::text(b" |");
+    printing::number(a.sent);
+    printing::number(a.lost);
+    printing::text(b" |");
+    printing::number(a.sum);
+    printing::number(a.least as u64);
+    printing::number(a.most as u64);
+    printing::text(b" |");
+    printing::number(c.available as u64);
+    printing::number(c.unavailable as u64);
+    printing::number(c.undecided as u64);
 }
 
 fn show_report(three: &[u8]) {
@@ -49,13 +48,13 @@ fn show_report(three: &[u8]) {
             show_loss(r);
             show_rest(r);
         }
-        Reported::Refused(r) => output::refused(r),
+        Reported::Refused(r) => printing::refused(r),
     }
 }
 
 // A verdict as a digit: 0 not met, 1 met, 2 not yet.
 fn show_verdict(v: Verdict) {
-    output::plain(verdicts::number(v));
+    printing::plain(verdicts::number(v));
 }
 
 pub fn show_verdicts(v: Verdicts) {
@@ -65,7 +64,7 @@ pub fn show_verdicts(v: Verdicts) {
     let mean = v.mean;
     let high = v.high;
     let runs = v.runs;
-    output::text(b" ");
+    printing::text(b" ");
     show_verdict(availability);
     show_verdict(composite);
     show_verdict(loss);
@@ -79,7 +78,7 @@ pub fn show_set(s: &[u8], pairs: u64, summaries: &[u8]) {
         Judged::Answered(v) => {
             show_verdicts(v);
         }
-        Judged::Refused(r) => output::refused(r),
+        Judged::Refused(r) => printing::refused(r),
     }
 }
 
@@ -104,9 +103,9 @@ fn show(s: &[u8], records: &[u8], a: usize, b: usize, count: usize) {
     let mut three = [0u8; 3072];
     put_three(s, records, a, b, count, &mut three, 0);
     show_report(&three);
-    output::text(b" |");
+    printing::text(b" |");
     show_set(s, 1, &three);
-    output::text(b"\n");
+    printing::text(b"\n");
 }
 
 // The report of the intervals from the `a`-th on to before the `b`-th, and its verdicts.
@@ -114,10 +113,10 @@ fn line(letters: &[u8], n: u8, p: u8, a: usize, b: usize) {
     let s = circuit::settings(n, p);
     let mut records = [0u8; RECORDS];
     circuit::put_records(&mut records, letters);
-    output::text(letters);
-    output::number(a as u64);
-    output::number(b as u64);
-    output::text(b":");
+    printing::text(letters);
+    printing::number(a as u64);
+    printing::number(b as u64);
+    printing::text(b":");
     show(&s, &records, a, b, letters.len());
 }
 
@@ -131,11 +130,11 @@ fn objective(name: &[u8], letters: &[u8], p: u8, at: usize, value: u32) {
     bytes::put_u32(&mut s, at, value);
     let mut records = [0u8; RECORDS];
     circuit::put_records(&mut records, letters);
-    output::text(letters);
-    output::text(b" ");
-    output::text(name);
-    output::number(value as u64);
-    output::text(b":");
+    printing::text(letters);
+    printing::text(b" ");
+    printing::text(name);
+    printing::number(value as u64);
+    printing::text(b":");
     verdict_line(&s, &records, letters.len());
 }
 
@@ -143,11 +142,11 @@ fn verdict_line(s: &[u8], records: &[u8], count: usize) {
     let mut three = [0u8; 3072];
     put_three(s, records, 0, count, count, &mut three, 0);
     show_set(s, 1, &three);
-    output::text(b"\n");
+    printing::text(b"\n");
 }
 
 pub fn run() {
-    output::line(
+    printing::line(
         b"reports: length, maintenance | available, unavailable, undecided | high, runs | sent, lost | sum, least, most | composite | verdicts",
     );
     line(b"HHHLLL", 3, 2, 0, 6);
@@ -162,7 +161,7 @@ pub fn run() {
     line(b"NNNN", 3, 2, 0, 4);
     line(b"HHHLLHL", 3, 2, 5, 5);
     line(b"", 3, 2, 0, 0);
-    output::line(b"objectives: availability, composite, loss, mean, high, runs");
+    printing::line(b"objectives: availability, composite, loss, mean, high, runs");
     objective(b"availability", b"LLLLLLLLLLLLHHHLLLLL", 2, 24, 850_000);
     objective(b"availability", b"LLLLLLLLLLLLHHHLLLLL", 2, 24, 850_001);
     objective(

@@ -1,7 +1,6 @@
 // Verdicts of several pairs.
 use crate::circuit;
 use crate::circuit::RECORDS;
-use crate::output;
 use crate::periods_of;
 use records::bytes;
 
@@ -11,9 +10,9 @@ fn fifteen_of_seventeen(objective: u32) {
     bytes::put_u32(&mut s, 24, objective);
     let mut records = [0u8; RECORDS];
     circuit::put_records(&mut records, b"LLLLHHLLLLLLLLLLL");
-    output::text(b"15 of 17 at");
-    output::number(objective as u64);
-    output::text(b":");
+    printing::text(b"15 of 17 at");
+    printing::number(objective as u64);
+    printing::text(b":");
     one(&s, &records, 17);
 }
 
@@ -21,7 +20,7 @@ fn one(s: &[u8], records: &[u8], count: usize) {
     let mut three = [0u8; 3072];
     periods_of::put_three(s, records, 0, count, count, &mut three, 0);
     periods_of::show_set(s, 1, &three);
-    output::text(b"\n");
+    printing::text(b"\n");
 }
 
 // Two pairs of these letters.
@@ -32,10 +31,10 @@ fn two(first: &[u8], second: &[u8]) {
     let mut others = [0u8; RECORDS];
     circuit::put_records(&mut records, first);
     circuit::put_records(&mut others, second);
-    output::text(first);
-    output::text(b" ");
-    output::text(second);
-    output::text(b":");
+    printing::text(first);
+    printing::text(b" ");
+    printing::text(second);
+    printing::text(b":");
     both(&s, &records, first.len(), &others, second.len());
 }
 
@@ -52,33 +51,33 @@ fn asked(s: &[u8], six: &mut [u8]) {
     periods_of::show_set(s, 2, six);
     bytes::put_u8(six, 1024, 9);
     periods_of::show_set(s, 2, six);
-    output::text(b"\n");
+    printing::text(b"\n");
 }
 
 // Numbers of pairs that are refused, or do not fit the bytes.
 fn pairs(count: u64) {
     let s = circuit::settings(3, 2);
     let none = [0u8; 0];
-    output::number(count);
+    printing::number(count);
     periods_of::show_set(&s, count, &none);
 }
 
 pub fn run() {
-    output::line(
+    printing::line(
         b"sets: verdicts; with the second pair's first number 1; with the first pair's damaged too",
     );
     two(b"LLL", b"LLL");
     two(b"HHHL", b"LLLHH");
     two(b"LLLHH", b"HHHLLL");
     two(b"LLL", b"LHH");
-    output::line(b"pairs");
+    printing::line(b"pairs");
     pairs(0);
     pairs(1);
     pairs(64);
     pairs(65);
     pairs(4_294_967_297);
     pairs(18_446_744_073_709_551_615);
-    output::text(b"\n");
+    printing::text(b"\n");
     fifteen_of_seventeen(882_352);
     fifteen_of_seventeen(882_353);
 }

@@ -1,6 +1,5 @@
 // Percentile delay and range: document 01's lines, and both sides of each limit. A line is the percentile, the range and the verdict
 // of each, or the refusal.
-use crate::output;
 use delays::Outcome;
 use records::bytes;
 
@@ -19,18 +18,18 @@ fn settings(pr: u32, delay: u32, range: u32) -> [u8; 64] {
 }
 
 fn show(name: &[u8], s: [u8; 64], list: &[u32]) {
-    output::text(name);
+    printing::text(name);
     match delays::delays(&s, list) {
-        Outcome::Refused(r) => output::refused(r),
+        Outcome::Refused(r) => printing::refused(r),
         Outcome::Answered(f) => {
-            output::number(f.percentile as u64);
-            output::number(f.range as u64);
-            output::text(b" ");
-            output::bit(f.percentile_met);
-            output::bit(f.range_met);
+            printing::number(f.percentile as u64);
+            printing::number(f.range as u64);
+            printing::text(b" ");
+            printing::bit(f.percentile_met);
+            printing::bit(f.range_met);
         }
     }
-    output::text(b"\n");
+    printing::text(b"\n");
 }
 
 // The list of document 01, at and past a step of the percentile, and each objective at the figure and one below it.
@@ -71,7 +70,7 @@ fn run_largest() {
 }
 
 pub fn run() {
-    output::line(b"delays");
+    printing::line(b"delays");
     run_steps();
     let none = [0u32; 1];
     run_few(&none[..0]);

@@ -1,6 +1,5 @@
 // Document 01's lines on labels: H is sent 10, lost 10, and L is sent 10, lost 0. Printed are the loss labels and the composite labels of the stretch, and
 // then what each step of the running evaluator settles: how many labels and which, on the loss track.
-use crate::output;
 use evaluator::Evaluator;
 use evaluator::Started;
 use evaluator::Stepped;
@@ -56,7 +55,7 @@ fn show_digits(out: &[u8], count: usize, lane: usize)
     requires { ⌜ (count ≤ 8) × (lane < 2) ⌝ }
 {
     for k in 0..count {
-        output::digit(bytes::get_u8(out, 2 * k + lane));
+        printing::digit(bytes::get_u8(out, 2 * k + lane));
     }
 }
 
@@ -65,12 +64,12 @@ fn show_labels(s: &[u8], records: &[u8], count: usize) {
     let answer = stretch::labels(s, records, &mut out, 0);
     match answer {
         Labelled::Written => {
-            output::text(b" ");
+            printing::text(b" ");
             show_track(&out, count, 0);
-            output::text(b" ");
+            printing::text(b" ");
             show_track(&out, count, 1);
         }
-        Labelled::Refused(r) => output::refused(r),
+        Labelled::Refused(r) => printing::refused(r),
     }
 }
 
@@ -80,13 +79,13 @@ fn show_step(e: Evaluator, records: &[u8], k: usize) -> Evaluator {
     match stepped {
         Stepped::Fed(next, answer) => {
             let loss = answer.loss;
-            output::number(loss.count);
-            output::text(b"x");
-            output::plain(loss.label);
+            printing::number(loss.count);
+            printing::text(b"x");
+            printing::plain(loss.label);
             next
         }
         Stepped::Refused(r) => {
-            output::refused(r);
+            printing::refused(r);
             e
         }
     }
@@ -100,13 +99,13 @@ fn show_steps(start: Evaluator, records: &[u8], count: usize) {
 }
 
 fn show_evaluator(s: &[u8], records: &[u8], count: usize) {
-    output::text(b" |");
+    printing::text(b" |");
     let started = evaluator::start(s);
     match started {
         Started::Ready(e) => {
             show_steps(e, records, count);
         }
-        Started::Refused(r) => output::refused(r),
+        Started::Refused(r) => printing::refused(r),
     }
 }
 
@@ -114,7 +113,7 @@ fn line(letters: &[u8], n: u8, p: u8) {
     let s = settings(n, p);
     let mut records = [0u8; RECORDS];
     put_records(&mut records, letters);
-    output::text(letters);
+    printing::text(letters);
     finish(&s, &records, letters.len());
 }
 
@@ -123,11 +122,11 @@ fn finish(s: &[u8], records: &[u8], count: usize) {
         show_labels(s, many::part(records, 48 * count, 0), count);
         show_evaluator(s, records, count);
     }
-    output::text(b"\n");
+    printing::text(b"\n");
 }
 
 pub fn run() {
-    output::line(b"labels");
+    printing::line(b"labels");
     line(b"HHHLLL", 3, 2);
     line(b"HHHLLH", 3, 2);
     line(b"HHHLL", 3, 2);

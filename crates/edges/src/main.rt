@@ -2,7 +2,6 @@
 mod delays_edges;
 mod labels_edges;
 mod measure_edges;
-mod output;
 mod records_edges;
 
 fn main() {

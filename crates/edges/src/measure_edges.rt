@@ -1,5 +1,4 @@
 // The edges of `interval`: how many frames, which times, which delays.
-use crate::output;
 use measure::Answer;
 use records::bytes;
 
@@ -40,7 +39,7 @@ fn put_all(frames: &mut [u8]) {
 fn show(name: &[u8], frames: &[u8], n: usize, number: u64, maintenance: u64) {
     let s = settings();
     let mut out = [7u8; 50];
-    output::text(name);
+    printing::text(name);
     let answer = measure::interval(
         &s,
         records::many::part(frames, 16 * (n % 5_000), 0),
@@ -51,7 +50,7 @@ fn show(name: &[u8], frames: &[u8], n: usize, number: u64, maintenance: u64) {
     );
     match answer {
         Answer::Written => show_record(&out),
-        Answer::Refused(r) => output::refused(r),
+        Answer::Refused(r) => printing::refused(r),
     }
     show_ends(&out);
 }
@@ -60,24 +59,24 @@ fn show(name: &[u8], frames: &[u8], n: usize, number: u64, maintenance: u64) {
 fn show_ends(out: &[u8]) {
     if bytes::get_u8(out, 0) == 7 {
         if bytes::get_u8(out, 49) == 7 {
-            output::text(b".");
+            printing::text(b".");
         }
     }
-    output::text(b"\n");
+    printing::text(b"\n");
 }
 
 fn show_record(out: &[u8]) {
-    output::text(b":");
-    output::number(bytes::get_u32(out, 1) as u64);
-    output::number(bytes::get_u32(out, 5) as u64);
-    output::number(bytes::get_u32(out, 9) as u64);
-    output::number(bytes::get_u32(out, 13) as u64);
-    output::number(bytes::get_u32(out, 17) as u64);
-    output::number(bytes::get_u32(out, 21) as u64);
-    output::number(bytes::get_u64(out, 25));
-    output::number(bytes::get_u32(out, 33) as u64);
-    output::number(bytes::get_u32(out, 37) as u64);
-    output::number(bytes::get_u8(out, 41) as u64);
+    printing::text(b":");
+    printing::number(bytes::get_u32(out, 1) as u64);
+    printing::number(bytes::get_u32(out, 5) as u64);
+    printing::number(bytes::get_u32(out, 9) as u64);
+    printing::number(bytes::get_u32(out, 13) as u64);
+    printing::number(bytes::get_u32(out, 17) as u64);
+    printing::number(bytes::get_u32(out, 21) as u64);
+    printing::number(bytes::get_u64(out, 25));
+    printing::number(bytes::get_u32(out, 33) as u64);
+    printing::number(bytes::get_u32(out, 37) as u64);
+    printing::number(bytes::get_u8(out, 41) as u64);
 }
 
 fn run_counts() {
@@ -139,7 +138,7 @@ fn run_ends() {
 }
 
 pub fn run() {
-    output::line(b"interval of frames");
+    printing::line(b"interval of frames");
     run_counts();
     run_line();
     run_ends();

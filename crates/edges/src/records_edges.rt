@@ -1,6 +1,5 @@
 // The byte-level edges: each field at its limit and one past it, each spare byte set, each length from 0 to twice the record.
 // A 1 is a record that is read, a 0 one that is not.
-use crate::output;
 use records::bytes;
 use records::frame;
 use records::frame::FrameRead;
@@ -63,19 +62,19 @@ fn front(kind: u8, s: &[u8], len: usize) -> bool {
 fn with_u8(kind: u8, b: [u8; 128], at: usize, x: u8) {
     let mut r = b;
     bytes::put_u8(&mut r, at, x);
-    output::bit(front(kind, &r, size(kind)));
+    printing::bit(front(kind, &r, size(kind)));
 }
 
 fn with_u32(kind: u8, b: [u8; 128], at: usize, x: u32) {
     let mut r = b;
     bytes::put_u32(&mut r, at, x);
-    output::bit(front(kind, &r, size(kind)));
+    printing::bit(front(kind, &r, size(kind)));
 }
 
 fn with_u64(kind: u8, b: [u8; 128], at: usize, x: u64) {
     let mut r = b;
     bytes::put_u64(&mut r, at, x);
-    output::bit(front(kind, &r, size(kind)));
+    printing::bit(front(kind, &r, size(kind)));
 }
 
 // A field one below its least, at its least, at its most and one past it.
@@ -89,13 +88,13 @@ fn field(
     most: u32,
     past: u32,
 ) {
-    output::text(name);
-    output::text(b" ");
+    printing::text(name);
+    printing::text(b" ");
     with_u32(kind, b, at, below);
     with_u32(kind, b, at, least);
     with_u32(kind, b, at, most);
     with_u32(kind, b, at, past);
-    output::text(b"\n");
+    printing::text(b"\n");
 }
 
 fn small_field(
@@ -108,13 +107,13 @@ fn small_field(
     most: u8,
     past: u8,
 ) {
-    output::text(name);
-    output::text(b" ");
+    printing::text(name);
+    printing::text(b" ");
     with_u8(kind, b, at, below);
     with_u8(kind, b, at, least);
     with_u8(kind, b, at, most);
     with_u8(kind, b, at, past);
-    output::text(b"\n");
+    printing::text(b"\n");
 }
 
 // Each byte from `from` to before `to` set to 1.
@@ -125,23 +124,23 @@ fn spare_bits(kind: u8, b: [u8; 128], from: usize, to: usize) {
 }
 
 fn spare(kind: u8, b: [u8; 128], from: usize, to: usize) {
-    output::text(b"spare ");
+    printing::text(b"spare ");
     spare_bits(kind, b, from, to);
-    output::text(b"\n");
+    printing::text(b"\n");
 }
 
 // Each length from 0 to twice the record.
 fn length_bits(kind: u8, s: &[u8], twice: usize) {
     for len in 0..twice {
-        output::bit(front(kind, s, len));
+        printing::bit(front(kind, s, len));
     }
-    output::bit(front(kind, s, twice));
+    printing::bit(front(kind, s, twice));
 }
 
 fn lengths(kind: u8, b: [u8; 128]) {
-    output::text(b"lengths ");
+    printing::text(b"lengths ");
     length_bits(kind, &b, 2 * size(kind));
-    output::text(b"\n");
+    printing::text(b"\n");
 }
 
 fn run_settings() {
@@ -153,7 +152,7 @@ fn run_settings() {
     bytes::put_u32(&mut b, 8, 500_000);
     bytes::put_u32(&mut b, 12, 500_000);
     bytes::put_u32(&mut b, 48, 950_000);
-    output::line(b"settings");
+    printing::line(b"settings");
     lengths(SETTINGS, b);
     field(b"length", SETTINGS, b, 0, 99, 100, 60_000, 60_001);
     small_field(b"n", SETTINGS, b, 4, 3, 4, 64, 65);
@@ -218,12 +217,12 @@ fn run_without_p(b: [u8; 128]) {
 fn run_frame() {
     let mut b = [0u8; 128];
     bytes::put_u32(&mut b, 8, 1_000);
-    output::line(b"frame");
+    printing::line(b"frame");
     lengths(FRAME, b);
-    output::text(b"time ");
+    printing::text(b"time ");
     with_u64(FRAME, b, 0, 0);
     with_u64(FRAME, b, 0, 18_446_744_073_709_551_615);
-    output::text(b"\n");
+    printing::text(b"\n");
     field(b"delay", FRAME, b, 8, 0, 1, 1_000_000_000, 1_000_000_001);
     small_field(b"state of a delayed frame", FRAME, b, 12, 0, 1, 2, 255);
     bytes::put_u32(&mut b, 8, 0);
@@ -241,7 +240,7 @@ fn run_interval() {
     bytes::put_u64(&mut b, 24, 9_000);
     bytes::put_u32(&mut b, 32, 1_000);
     bytes::put_u32(&mut b, 36, 2_000);
-    output::line(b"interval");
+    printing::line(b"interval");
     lengths(INTERVAL, b);
     field(b"number", INTERVAL, b, 0, 0, 1, 2_999_999, 3_000_000);
     field(b"sent", INTERVAL, b, 4, 8, 9, 13, 14);
@@ -249,12 +248,12 @@ fn run_interval() {
     field(b"late", INTERVAL, b, 12, 0, 1, 6, 7);
     field(b"pairs", INTERVAL, b, 16, 0, 1, 5, 6);
     field(b"jumpy", INTERVAL, b, 20, 0, 1, 3, 4);
-    output::text(b"sum ");
+    printing::text(b"sum ");
     with_u64(INTERVAL, b, 24, 5_999);
     with_u64(INTERVAL, b, 24, 6_000);
     with_u64(INTERVAL, b, 24, 12_000);
     with_u64(INTERVAL, b, 24, 12_001);
-    output::text(b"\n");
+    printing::text(b"\n");
     field(b"least", INTERVAL, b, 32, 0, 1, 1_500, 1_501);
     field(
         b"most",
@@ -277,7 +276,7 @@ fn run_empty() {
     let mut b = [0u8; 128];
     bytes::put_u32(&mut b, 4, 10);
     bytes::put_u32(&mut b, 8, 10);
-    output::line(b"nothing delivered");
+    printing::line(b"nothing delivered");
     field(b"late", INTERVAL, b, 12, 0, 1, 2, 3);
     field(b"pairs", INTERVAL, b, 16, 0, 1, 2, 3);
     field(b"jumpy", INTERVAL, b, 20, 0, 1, 2, 3);
@@ -293,7 +292,7 @@ fn run_full() {
     bytes::put_u64(&mut b, 24, 4_096_000_000_000);
     bytes::put_u32(&mut b, 32, 1_000_000_000);
     bytes::put_u32(&mut b, 36, 1_000_000_000);
-    output::line(b"full");
+    printing::line(b"full");
     field(b"sent", INTERVAL, b, 4, 4_095, 4_096, 4_096, 4_097);
     field(b"late", INTERVAL, b, 12, 0, 1, 4_096, 4_097);
     field(b"pairs", INTERVAL, b, 16, 0, 1, 4_095, 4_096);

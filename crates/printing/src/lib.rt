@@ -1,4 +1,4 @@
-// What the edges print.
+// What programs print that run the edges.
 use libc::STDOUT_FILENO;
 use records::refusal;
 use records::refusal::Refusal;
