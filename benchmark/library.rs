@@ -41,6 +41,17 @@ mod c {
             out_len: usize,
             at: usize,
         ) -> u64;
+        pub fn mip_report(r: *const u8, r_len: usize, figures: *mut u64, figures_len: usize)
+        -> u64;
+        pub fn mip_verdicts(
+            s: *const u8,
+            s_len: usize,
+            pairs: u64,
+            r: *const u8,
+            r_len: usize,
+            verdicts: *mut u64,
+            verdicts_len: usize,
+        ) -> u64;
         pub fn mip_delays(
             s: *const u8,
             s_len: usize,
@@ -130,6 +141,24 @@ pub fn join(l: &[u8], r: &[u8], out: &mut [u8], at: usize) -> u64 {
             out.as_mut_ptr(),
             out.len(),
             at,
+        )
+    }
+}
+
+pub fn report(r: &[u8], figures: &mut [u64]) -> u64 {
+    unsafe { c::mip_report(r.as_ptr(), r.len(), figures.as_mut_ptr(), figures.len()) }
+}
+
+pub fn verdicts(s: &[u8], pairs: u64, r: &[u8], verdicts: &mut [u64]) -> u64 {
+    unsafe {
+        c::mip_verdicts(
+            s.as_ptr(),
+            s.len(),
+            pairs,
+            r.as_ptr(),
+            r.len(),
+            verdicts.as_mut_ptr(),
+            verdicts.len(),
         )
     }
 }

@@ -3,8 +3,7 @@
 //!
 //! A module for each group of operations has the same work in plain Rust, written for speed, with every check of the library; `compare`
 //! holds the two to each other on damaged inputs, and `rows` gives the inputs to measure. To add an operation: its function in `library`, a
-//! module, and a line in `main`. `mip_report` and `mip_verdicts` (64 pairs a call) belong into `reports.rs`, beside `summaries.rs`,
-//! whose `read` gives the tracks that they start from.
+//! module, and a line in `main`.
 mod delays;
 mod evaluator;
 mod frames;
@@ -12,6 +11,7 @@ mod inputs;
 mod labels;
 mod library;
 mod records;
+mod reports;
 mod summaries;
 
 use std::hint::black_box;
@@ -146,6 +146,7 @@ fn main() {
     labels::compare();
     evaluator::compare();
     summaries::compare();
+    reports::compare();
     frames::compare();
     delays::compare();
     println!(
@@ -163,6 +164,7 @@ fn main() {
     labels::rows(&mut measure);
     evaluator::rows(&mut measure);
     summaries::rows(&mut measure);
+    reports::rows(&mut measure);
     frames::rows(&mut measure);
     delays::rows(&mut measure);
 }

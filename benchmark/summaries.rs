@@ -3,7 +3,7 @@ use crate::inputs::{self, Random};
 use crate::records::*;
 use crate::{Out, Row, library};
 
-const SIZE: usize = 1024;
+pub const SIZE: usize = 1024;
 
 /// What intervals add up to. The least delay is kept as headroom, the largest delay less it.
 #[derive(Clone, Copy, Default)]
@@ -135,6 +135,15 @@ impl Run {
         }
     }
 
+    #[inline(always)]
+    pub fn figures(&self, p: u32) -> Figures {
+        Figures {
+            high: if self.high { self.load.count } else { 0 },
+            runs: if self.high { self.edges.runs(p) } else { 0 },
+            load: self.load,
+        }
+    }
+
     fn meets(&self, p: u32) -> bool {
         let Edges {
             solid,
@@ -180,8 +189,8 @@ impl Figures {
     }
 }
 
-const AVAILABLE: u32 = 1;
-const UNAVAILABLE: u32 = 2;
+pub const AVAILABLE: u32 = 1;
+pub const UNAVAILABLE: u32 = 2;
 
 /// What lies between two runs. The label is 0 where it is that of the run before.
 #[derive(Clone, Copy, Default)]
@@ -208,12 +217,7 @@ impl Middle {
         if n <= r.len {
             self.label = AVAILABLE + r.high as u32;
         }
-        let f = Figures {
-            high: if r.high { r.load.count } else { 0 },
-            runs: if r.high { r.edges.runs(p) } else { 0 },
-            load: r.load,
-        };
-        self.place(self.label, &f);
+        self.place(self.label, &r.figures(p));
     }
 
     pub fn behind(&mut self, o: &Middle) {
@@ -617,7 +621,7 @@ fn join(left: &[u8], right: &[u8], out: &mut [u8], at: usize) -> u64 {
 }
 
 /// The summaries of stretches of so many intervals.
-fn made(s: &[u8], r: &[u8], count: usize) -> Vec<[u8; SIZE]> {
+pub fn made(s: &[u8], r: &[u8], count: usize) -> Vec<[u8; SIZE]> {
     let of = |(k, part): (usize, &[u8])| {
         let mut out = [0; SIZE];
         assert!(library::summary(s, (k * count) as u64, part, &mut out, 0) == 0);
