@@ -1,7 +1,7 @@
-//! Percentile delay and range.
+//! Percentile delay and range of a list of delays, by sorting it.
 
-use crate::records::*;
-use crate::refusals::*;
+use crate::records::{read_settings, LARGEST_DELAY, MILLION};
+use crate::refusals::{refuse, room_for_words, Answer, FIELD, FULL, SETTINGS};
 
 #[derive(Clone, Copy, Debug, PartialEq, Eq)]
 pub struct Delays {
@@ -11,54 +11,35 @@ pub struct Delays {
     pub range_met: bool,
 }
 
-/// The least listed delay d with pr × N ≤ 1,000,000 × (delays ≤ d), 0 for none; the list is sorted.
-fn percentile(pr: u64, sorted: &[u64]) -> u64 {
-    let n = sorted.len() as u64;
-    let mut i = 0;
-    while i < sorted.len() {
-        let d = sorted[i];
-        while i < sorted.len() && sorted[i] == d {
-            i += 1;
-        }
-        // i delays are at most d
-        if pr * n <= MILLION * i as u64 {
-            return d;
-        }
-    }
-    0
-}
-
 impl Delays {
     pub fn words(&self) -> [u64; 4] {
-        [
-            self.percentile,
-            self.range,
-            self.percentile_met as u64,
-            self.range_met as u64,
-        ]
+        [self.percentile, self.range, self.percentile_met as u64, self.range_met as u64]
     }
 }
 
-/// Percentile and range, for an output of `room_words` words.
 pub fn delays(settings: &[u8], list: &[u32], room_words: usize) -> Answer<Delays> {
-    let Some(settings) = read_settings(settings) else {
+    let Some(s) = read_settings(settings) else {
         return refuse(SETTINGS, 0);
     };
     room_for_words(room_words, 4)?;
-    if list.len() > 1_000_000 {
+    if list.len() as u64 > 1_000_000 {
         return refuse(FULL, 0);
     }
-    if let Some(place) = list.iter().position(|d| *d as u64 > LARGEST_DELAY) {
+    if let Some(place) = list.iter().position(|&d| d as u64 > LARGEST_DELAY) {
         return refuse(FIELD, place);
     }
-    let mut sorted: Vec<u64> = list.iter().map(|d| *d as u64).collect();
+    let mut sorted: Vec<u64> = list.iter().map(|&d| d as u64).collect();
     sorted.sort();
-    let percentile = percentile(settings.percentile, &sorted);
+    // Let k be the first place with enough delays up to and with it. At or below its delay are k + 1 delays or more, which is enough; at
+    // or below a lesser listed delay are at most k, which is not.
+    let needed = s.percentile as u128 * sorted.len() as u128;
+    let found = (0..sorted.len()).find(|&k| needed <= MILLION as u128 * (k as u128 + 1));
+    let percentile = found.map_or(0, |k| sorted[k]);
     let range = percentile - sorted.first().copied().unwrap_or(0);
     Ok(Delays {
         percentile,
         range,
-        percentile_met: percentile <= settings.most_delay,
-        range_met: range <= settings.most_range,
+        percentile_met: percentile <= s.most_delay,
+        range_met: range <= s.most_range,
     })
 }

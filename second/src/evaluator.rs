@@ -1,8 +1,8 @@
-//! The running evaluator, held as all marks fed to it; every label is worked out again after each step.
+//! The running evaluator of a circuit, held as all the marks that were fed to it.
 
-use crate::labels::*;
-use crate::records::*;
-use crate::refusals::*;
+use crate::labels::{high_composite, high_loss, settle, Label};
+use crate::records::{read_interval, read_settings, LabelSettings, INTERVALS};
+use crate::refusals::{refuse, room_for_words, Answer, FIELD, LENGTH, ORDER, SETTINGS};
 
 pub const EVALUATOR_WORDS: usize = 13;
 
@@ -13,46 +13,54 @@ pub struct Evaluator {
     pub composite: Vec<bool>,
 }
 
-/// How many labels of these marks are settled, how many are undecided, and the label settled last (available before the first).
-/// What is settled comes before what is undecided.
-fn standing(n: usize, marks: &[bool]) -> (u64, u64, Label) {
-    let labels = settle(n, marks);
-    let settled = labels.iter().filter(|l| **l != Label::Undecided).count();
-    assert!(
-        labels[..settled].iter().all(|l| *l != Label::Undecided),
-        "a settled label behind an undecided one"
-    );
-    let last = labels[..settled]
-        .last()
-        .copied()
-        .unwrap_or(Label::Available);
-    (settled as u64, (labels.len() - settled) as u64, last)
+/// The latest place at which n equal marks begin, or 0 where there is none.
+///
+/// From such a place on, labels do not depend on what was before: after n high marks begin, each of these is unavailable, whatever the
+/// label before, and after n marks not high begin, each of these is available. So labels from there on are those of a stretch that
+/// begins there.
+fn sure_place(n: usize, marks: &[bool]) -> usize {
+    let mut k = marks.len();
+    while k > 0 {
+        k -= 1;
+        if k + n <= marks.len() && marks[k..k + n].iter().all(|&m| m == marks[k]) {
+            return k;
+        }
+    }
+    0
 }
 
-/// Count and label of what one more mark settled.
-fn fed(n: usize, marks: &mut Vec<bool>, mark: bool) -> [u64; 2] {
-    let (before, _, _) = standing(n, marks);
-    marks.push(mark);
-    let labels = settle(n, marks);
-    let (after, _, _) = standing(n, marks);
-    let new = &labels[before as usize..after as usize];
-    let Some(label) = new.first() else {
-        return [0, Label::Undecided.byte() as u64];
-    };
-    assert!(
-        new.iter().all(|l| l == label),
-        "one step settles two labels"
-    );
-    [new.len() as u64, label.byte() as u64]
+/// The label settled last, available where none is, and how many are undecided.
+fn left_by(n: usize, marks: &[bool]) -> (Label, usize) {
+    let labels = settle(n, &marks[sure_place(n, marks)..]);
+    let settled: Vec<&Label> = labels.iter().filter(|l| **l != Label::Undecided).collect();
+    let last = settled.last().map_or(Label::Available, |l| **l);
+    (last, labels.len() - settled.len())
+}
+
+/// Marks of the number fed that leave a track with this label and so many undecided, or None where there are none.
+///
+/// Undecided are the last ones, all high after an available label, all not high after an unavailable one, and fewer than n. Where any
+/// marks leave an available label last, so do marks that are not high up to the undecided ones. Where any leave an unavailable one,
+/// n high marks in a row are settled among them, and so do marks that are all high up to the undecided ones.
+fn marks_leaving(n: usize, fed: u64, label: u64, undecided: u64) -> Option<Vec<bool>> {
+    if label > 1 || undecided > fed {
+        return None;
+    }
+    let mut marks = vec![label == 0; (fed - undecided) as usize];
+    marks.extend(vec![label == 1; undecided as usize]);
+    let (last, rest) = left_by(n, &marks);
+    if last.byte() as u64 == label && rest as u64 == undecided {
+        Some(marks)
+    } else {
+        None
+    }
 }
 
 impl Evaluator {
-    /// Settings, number fed, and for each track the label settled last (1 available, 0 not) and how many are undecided.
     pub fn words(&self) -> [u64; EVALUATOR_WORDS] {
         let s = &self.settings;
-        let n = s.n as usize;
-        let (_, loss_undecided, loss_label) = standing(n, &self.loss);
-        let (_, composite_undecided, composite_label) = standing(n, &self.composite);
+        let (loss, loss_rest) = left_by(s.n as usize, &self.loss);
+        let (composite, composite_rest) = left_by(s.n as usize, &self.composite);
         [
             s.length,
             s.n,
@@ -63,15 +71,18 @@ impl Evaluator {
             s.dl,
             s.jt,
             self.loss.len() as u64,
-            loss_label.byte() as u64,
-            loss_undecided,
-            composite_label.byte() as u64,
-            composite_undecided,
+            loss.byte() as u64,
+            loss_rest as u64,
+            composite.byte() as u64,
+            composite_rest as u64,
         ]
     }
 
-    /// An evaluator that these words stand for, if there is one.
+    /// An evaluator with these words, the first 13, or None where there is none.
     pub fn of_words(words: &[u64]) -> Option<Evaluator> {
+        if words.len() < EVALUATOR_WORDS {
+            return None;
+        }
         let settings = LabelSettings {
             length: words[0],
             n: words[1],
@@ -87,52 +98,36 @@ impl Evaluator {
             return None;
         }
         let n = settings.n as usize;
-        Some(Evaluator {
-            settings,
-            loss: marks_that_leave(n, fed as usize, words[9], words[10])?,
-            composite: marks_that_leave(n, fed as usize, words[11], words[12])?,
-        })
+        let loss = marks_leaving(n, fed, words[9], words[10])?;
+        let composite = marks_leaving(n, fed, words[11], words[12])?;
+        Some(Evaluator { settings, loss, composite })
     }
 }
 
-/// `fed` marks that leave this label and this many undecided, if any do.
-///
-/// Only two sequences are tried: marks that speak for the label, and then as many against it as are to be undecided. They are
-/// enough. An undecided label looks at a mark that is not known yet, so fewer than n are undecided. Where the label is available,
-/// that many high marks behind low ones leave just them undecided: all high behind them makes n high marks, all low does not. Where
-/// it is unavailable, n high marks in a row are among the known (else all low behind them gives available to all), and all of these
-/// are settled as unavailable, for the window of each holds the last of them. So at least n of those fed are settled, and that many
-/// high marks with the undecided ones low behind them leave the same.
-fn marks_that_leave(n: usize, fed: usize, label: u64, undecided: u64) -> Option<Vec<bool>> {
-    if label > 1 || undecided > fed as u64 {
-        return None;
-    }
-    let against = label == 1;
-    let mut marks = vec![!against; fed - undecided as usize];
-    marks.resize(fed, against);
-    let (_, left, last) = standing(n, &marks);
-    if left == undecided && last.byte() as u64 == label {
-        Some(marks)
-    } else {
-        None
-    }
-}
-
-/// An evaluator with nothing fed, for an output of `room_words` words.
 pub fn start(settings: &[u8], room_words: usize) -> Answer<Evaluator> {
-    let Some(settings) = read_settings(settings) else {
+    let Some(s) = read_settings(settings) else {
         return refuse(SETTINGS, 0);
     };
     room_for_words(room_words, EVALUATOR_WORDS)?;
-    Ok(Evaluator {
-        settings: settings.label,
-        loss: Vec::new(),
-        composite: Vec::new(),
-    })
+    Ok(Evaluator { settings: s.label, loss: Vec::new(), composite: Vec::new() })
 }
 
-/// Takes the next record: count and label of what it settled, for the loss track and then for the composite track. `evaluator` is none
-/// where it breaks its rules.
+/// Feeds a track one more mark: how many labels that settled, and which one, 2 where none.
+fn feed(n: usize, marks: &mut Vec<bool>, high: bool) -> [u64; 2] {
+    let (_, rest_before) = left_by(n, marks);
+    let first_open = marks.len() - rest_before;
+    marks.push(high);
+    let from = sure_place(n, marks);
+    let labels = settle(n, &marks[from..]);
+    let newly: Vec<Label> = labels[first_open - from..].iter().copied().filter(|l| *l != Label::Undecided).collect();
+    assert!(newly.iter().all(|l| *l == newly[0]), "all labels settled by one step agree");
+    match newly.first() {
+        Some(label) => [newly.len() as u64, label.byte() as u64],
+        None => [0, Label::Undecided.byte() as u64],
+    }
+}
+
+/// Feeds the next record. The evaluator is None where it breaks its rules.
 pub fn step(evaluator: &mut Option<Evaluator>, record: &[u8]) -> Answer<[u64; 4]> {
     if record.len() != 48 {
         return refuse(LENGTH, 0);
@@ -140,19 +135,22 @@ pub fn step(evaluator: &mut Option<Evaluator>, record: &[u8]) -> Answer<[u64; 4]
     let Some(e) = evaluator else {
         return refuse(FIELD, 0);
     };
-    let Some(interval) = read_interval(record) else {
+    if !e.settings.meets_rules() || e.loss.len() as u64 > INTERVALS || e.loss.len() != e.composite.len() {
+        return refuse(FIELD, 0);
+    }
+    let Some(i) = read_interval(record) else {
         return refuse(FIELD, 0);
     };
-    if interval.number != e.loss.len() as u64 {
+    if i.number != e.loss.len() as u64 {
         return refuse(ORDER, 0);
     }
     let n = e.settings.n as usize;
-    let loss = fed(n, &mut e.loss, high_loss(&e.settings, &interval));
-    let composite = fed(n, &mut e.composite, high_composite(&e.settings, &interval));
+    let loss = feed(n, &mut e.loss, high_loss(&e.settings, &i));
+    let composite = feed(n, &mut e.composite, high_composite(&e.settings, &i));
     Ok([loss[0], loss[1], composite[0], composite[1]])
 }
 
-/// `step` on words: the evaluator's must be 13 or more, and `room_words` is the length of the output.
+/// The same with the evaluator as words, altered where they stand; words behind the 13th stay.
 pub fn step_words(words: &mut [u64], record: &[u8], room_words: usize) -> Answer<[u64; 4]> {
     if record.len() != 48 || words.len() < EVALUATOR_WORDS {
         return refuse(LENGTH, 0);
@@ -164,34 +162,4 @@ pub fn step_words(words: &mut [u64], record: &[u8], room_words: usize) -> Answer
         words[..EVALUATOR_WORDS].copy_from_slice(&e.words());
     }
     Ok(settled)
-}
-
-#[cfg(test)]
-mod tests {
-    use super::*;
-    use std::collections::BTreeSet;
-
-    #[test]
-    fn two_sequences_are_as_good_as_all() {
-        for n in 1..=4 {
-            for fed in 0..=9usize {
-                let mut left = BTreeSet::new();
-                for bits in 0..1u32 << fed {
-                    let marks: Vec<bool> = (0..fed).map(|i| bits >> i & 1 == 1).collect();
-                    let (_, undecided, last) = standing(n, &marks);
-                    left.insert((last.byte() as u64, undecided));
-                }
-                for label in 0..=2 {
-                    for undecided in 0..=fed as u64 + 1 {
-                        let found = marks_that_leave(n, fed, label, undecided).is_some();
-                        assert_eq!(
-                            found,
-                            left.contains(&(label, undecided)),
-                            "n {n} fed {fed} {label} {undecided}"
-                        );
-                    }
-                }
-            }
-        }
-    }
 }

@@ -1,42 +1,9 @@
-//! From frames to one interval.
+//! From the frames of one interval to its record.
 
-use crate::records::*;
-use crate::refusals::*;
+use crate::records::{read_frame, read_settings, Frame, Interval, FRAMES, INTERVALS, MILLION};
+use crate::refusals::{refuse, room, whole, Answer, FIELD, FULL, ORDER, OUTSIDE, SETTINGS};
 
-/// The record of interval `number` over these frames.
-fn measured(
-    settings: &LabelSettings,
-    frames: &[Frame],
-    number: u64,
-    maintenance: bool,
-) -> Interval {
-    let delivered: Vec<&Frame> = frames.iter().filter(|f| !f.lost).collect();
-    let mut pairs = 0;
-    let mut jumpy = 0;
-    for i in 1..frames.len() {
-        let (a, b) = (&frames[i - 1], &frames[i]);
-        if !a.lost && !b.lost {
-            pairs += 1;
-            if a.delay.abs_diff(b.delay) > settings.jt {
-                jumpy += 1;
-            }
-        }
-    }
-    Interval {
-        number,
-        sent: frames.len() as u64,
-        lost: frames.iter().filter(|f| f.lost).count() as u64,
-        late: delivered.iter().filter(|f| f.delay > settings.dl).count() as u64,
-        pairs,
-        jumpy,
-        sum: delivered.iter().map(|f| f.delay).sum(),
-        least: delivered.iter().map(|f| f.delay).min().unwrap_or(0),
-        most: delivered.iter().map(|f| f.delay).max().unwrap_or(0),
-        maintenance,
-    }
-}
-
-/// The 48 bytes of one interval, for a buffer of `room_length` bytes at offset `at`.
+/// The 48 bytes of the record.
 pub fn interval(
     settings: &[u8],
     frames: &[u8],
@@ -45,7 +12,7 @@ pub fn interval(
     room_length: usize,
     at: usize,
 ) -> Answer<Vec<u8>> {
-    let Some(settings) = read_settings(settings) else {
+    let Some(s) = read_settings(settings) else {
         return refuse(SETTINGS, 0);
     };
     let records = whole(frames, 16)?;
@@ -56,21 +23,36 @@ pub fn interval(
     if number >= INTERVALS || maintenance > 1 {
         return refuse(FIELD, 0);
     }
-    let length = settings.label.length * 1_000_000;
-    let mut taken: Vec<Frame> = Vec::new();
+    let length = s.label.length as u128 * MILLION as u128;
+    let begin = number as u128 * length;
+    let end = (number as u128 + 1) * length;
+    let mut read: Vec<Frame> = Vec::new();
     for (place, record) in records.iter().enumerate() {
         let Some(frame) = read_frame(record) else {
             return refuse(FIELD, place);
         };
-        if frame.time < number * length || frame.time >= (number + 1) * length {
+        let time = frame.time as u128;
+        if time < begin || end <= time {
             return refuse(OUTSIDE, place);
         }
-        if let Some(previous) = taken.last() {
-            if frame.time <= previous.time {
-                return refuse(ORDER, place);
-            }
+        if place > 0 && frame.time <= read[place - 1].time {
+            return refuse(ORDER, place);
         }
-        taken.push(frame);
+        read.push(frame);
     }
-    Ok(measured(&settings.label, &taken, number, maintenance == 1).write())
+    let delivered: Vec<u64> = read.iter().filter(|f| !f.lost).map(|f| f.delay).collect();
+    let pairs: Vec<&[Frame]> = read.windows(2).filter(|w| !w[0].lost && !w[1].lost).collect();
+    let made = Interval {
+        number,
+        sent: read.len() as u64,
+        lost: read.iter().filter(|f| f.lost).count() as u64,
+        late: delivered.iter().filter(|&&d| d > s.label.dl).count() as u64,
+        pairs: pairs.len() as u64,
+        jumpy: pairs.iter().filter(|w| w[0].delay.abs_diff(w[1].delay) > s.label.jt).count() as u64,
+        sum: delivered.iter().sum(),
+        least: delivered.iter().copied().min().unwrap_or(0),
+        most: delivered.iter().copied().max().unwrap_or(0),
+        maintenance: maintenance == 1,
+    };
+    Ok(made.write())
 }

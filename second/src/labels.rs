@@ -1,9 +1,9 @@
-//! High or not, the window recursion, and what is undecided.
+//! Marks, high or not, and the labels of both tracks by the window recursion.
 
-use crate::records::*;
-use crate::refusals::*;
+use crate::records::{read_interval, read_settings, Interval, LabelSettings, MILLION};
+use crate::refusals::{refuse, room, whole, Answer, FIELD, ORDER, SETTINGS};
 
-/// An exact fraction of whole numbers; the lower number is not 0.
+/// Numerator and denominator; the denominator is not 0.
 #[derive(Clone, Copy, Debug)]
 pub struct Fraction(pub u64, pub u64);
 
@@ -13,30 +13,25 @@ impl Fraction {
     }
 }
 
-/// The loss ratio.
 pub fn loss_ratio(i: &Interval) -> Fraction {
-    if i.sent == 0 {
-        Fraction(0, 1)
-    } else {
-        Fraction(i.lost, i.sent)
-    }
-}
-
-/// The composite indicator D.
-pub fn composite_indicator(s: &LabelSettings, i: &Interval) -> Fraction {
-    let (loss, delay, variation) = (s.loss_weight(), s.delay_weight(), s.variation_weight());
     if i.sent == 0 {
         return Fraction(0, 1);
     }
-    if loss == 0 && i.delivered() == 0 {
+    Fraction(i.lost, i.sent)
+}
+
+pub fn composite_indicator(s: &LabelSettings, i: &Interval) -> Fraction {
+    let (fl, fd, fdv) = (s.loss_weight(), s.delay_weight(), s.variation_weight());
+    if i.sent == 0 {
+        return Fraction(0, 1);
+    }
+    if fl == 0 && i.delivered() == 0 {
         return Fraction(1, 1);
     }
-    if loss == 0 && delay == 0 && i.pairs == 0 {
+    if fl == 0 && fd == 0 && i.pairs == 0 {
         return Fraction(1, 1);
     }
-    let failures = i.lost * loss + i.late * delay + i.jumpy * variation;
-    let characteristics = i.sent * loss + i.delivered() * delay + i.pairs * variation;
-    Fraction(failures, characteristics)
+    Fraction(i.lost * fl + i.late * fd + i.jumpy * fdv, i.sent * fl + i.delivered() * fd + i.pairs * fdv)
 }
 
 pub fn high_loss(s: &LabelSettings, i: &Interval) -> bool {
@@ -64,143 +59,85 @@ impl Label {
     }
 }
 
-/// The labels of the first `count` intervals by the rule; `marks` goes n - 1 further, so every window is known. True is available.
+/// The labels of the first `count` intervals, true for available. A mark is true for high. All the windows must be marked:
+/// `marks` holds at least count + n - 1 marks, or count is 0.
 pub fn by_windows(n: usize, marks: &[bool], count: usize) -> Vec<bool> {
     let mut labels = Vec::with_capacity(count);
     let mut available = true;
     for k in 0..count {
-        let mut window = marks[k..k + n].iter();
-        available = if available {
-            !window.all(|high| *high)
+        let window = &marks[k..k + n];
+        if available {
+            available = !window.iter().all(|&high| high);
         } else {
-            window.all(|high| !*high)
-        };
+            available = window.iter().all(|&high| !high);
+        }
         labels.push(available);
     }
     labels
 }
 
-/// The labels of the known marks when `more` follows them.
-fn continued(n: usize, known: &[bool], more: &[bool]) -> Vec<bool> {
-    by_windows(n, &[known, more].concat(), known.len())
-}
-
-/// A label for each known mark.
+/// The labels of the known intervals: undecided where two continuations differ.
 ///
-/// Two continuations are tried, all high and all not high. They are enough. Say that a label is worse when it is unavailable.
-/// With one more high mark, no label gets better: after an available label "all high" is met sooner, after an unavailable one "all
-/// not high" is met later, and a worse label before k never makes k better, since where all of a window is high (unavailable after
-/// available) not all of it is not high (unavailable after unavailable). So each label lies between those of the two extreme
-/// continuations: where these two agree every continuation gives that label, and where they differ it is undecided. A label looks
-/// at n - 1 marks behind its own, so n - 1 more marks are as good as an endless continuation.
+/// Continuations by n - 1 marks give every known interval its whole window. Of them two suffice, all high and none high. Let k be the
+/// first interval that any two continuations label differently; the label before it is sure. Say it is available: then the known marks
+/// from k on are all high, fewer than n. With all high behind, k becomes unavailable and the known ones after k, being high, stay so.
+/// With none high behind, the windows of k and of each known one after it hold a mark that is not high, and all stay available. So the
+/// two differ at k and at every known interval after it, and the others before k agree under all continuations. With the label
+/// before k unavailable the same holds with high and not high exchanged.
 pub fn settle(n: usize, known: &[bool]) -> Vec<Label> {
-    let all_high = continued(n, known, &vec![true; n - 1]);
-    let all_low = continued(n, known, &vec![false; n - 1]);
-    all_high
-        .iter()
-        .zip(&all_low)
-        .map(|(a, b)| agreed(*a, *b))
-        .collect()
-}
-
-fn agreed(a: bool, b: bool) -> Label {
-    match (a, b) {
-        (true, true) => Label::Available,
-        (false, false) => Label::Unavailable,
-        _ => Label::Undecided,
+    let continued = |high: bool| {
+        let mut marks = known.to_vec();
+        marks.extend(vec![high; n - 1]);
+        by_windows(n, &marks, known.len())
+    };
+    let one = continued(true);
+    let other = continued(false);
+    let mut labels = Vec::with_capacity(known.len());
+    for k in 0..known.len() {
+        labels.push(match (one[k], other[k]) {
+            (true, true) => Label::Available,
+            (false, false) => Label::Unavailable,
+            _ => Label::Undecided,
+        });
     }
+    labels
 }
 
-/// The labels of both tracks, loss and composite.
+/// The labels of the stretch from 0: loss, then composite.
 pub fn both_tracks(s: &LabelSettings, intervals: &[Interval]) -> (Vec<Label>, Vec<Label>) {
     let loss: Vec<bool> = intervals.iter().map(|i| high_loss(s, i)).collect();
     let composite: Vec<bool> = intervals.iter().map(|i| high_composite(s, i)).collect();
-    let n = s.n as usize;
-    (settle(n, &loss), settle(n, &composite))
+    (settle(s.n as usize, &loss), settle(s.n as usize, &composite))
 }
 
-/// Reads records numbered consecutively from `first`: each 5, then 7.
+/// The intervals of records that must be numbered first, first + 1 and so on.
 pub fn read_stretch(records: &[&[u8]], first: u64) -> Answer<Vec<Interval>> {
-    let mut intervals: Vec<Interval> = Vec::new();
+    let mut intervals = Vec::new();
     for (place, record) in records.iter().enumerate() {
-        let Some(interval) = read_interval(record) else {
+        let Some(i) = read_interval(record) else {
             return refuse(FIELD, place);
         };
-        if interval.number != first + place as u64 {
+        if i.number != first + place as u64 {
             return refuse(ORDER, place);
         }
-        intervals.push(interval);
+        intervals.push(i);
     }
     Ok(intervals)
 }
 
-/// Two bytes for each interval of a stretch from 0, for a buffer of `room_length` bytes at offset `at`.
+/// Two bytes for each interval, its loss label and then its composite label.
 pub fn labels(settings: &[u8], intervals: &[u8], room_length: usize, at: usize) -> Answer<Vec<u8>> {
-    let Some(settings) = read_settings(settings) else {
+    let Some(s) = read_settings(settings) else {
         return refuse(SETTINGS, 0);
     };
     let records = whole(intervals, 48)?;
     room(room_length, at, 2 * records.len())?;
-    let intervals = read_stretch(&records, 0)?;
-    let (loss, composite) = both_tracks(&settings.label, &intervals);
-    Ok(loss
-        .iter()
-        .zip(&composite)
-        .flat_map(|(a, b)| [a.byte(), b.byte()])
-        .collect())
-}
-
-#[cfg(test)]
-mod tests {
-    use super::*;
-
-    /// All sequences of `length` marks.
-    fn sequences(length: usize) -> impl Iterator<Item = Vec<bool>> {
-        (0..1usize << length).map(move |bits| (0..length).map(|i| bits >> i & 1 == 1).collect())
+    let stretch = read_stretch(&records, 0)?;
+    let (loss, composite) = both_tracks(&s.label, &stretch);
+    let mut bytes = Vec::new();
+    for k in 0..stretch.len() {
+        bytes.push(loss[k].byte());
+        bytes.push(composite[k].byte());
     }
-
-    /// 01's words: undecided when two continuations of this length give two labels.
-    fn settle_by_all(n: usize, known: &[bool], length: usize) -> Vec<Label> {
-        let mut seen = vec![(false, false); known.len()];
-        for more in sequences(length) {
-            for (k, available) in continued(n, known, &more).iter().enumerate() {
-                if *available {
-                    seen[k].0 = true;
-                } else {
-                    seen[k].1 = true;
-                }
-            }
-        }
-        seen.iter()
-            .map(|s| match s {
-                (true, false) => Label::Available,
-                (false, true) => Label::Unavailable,
-                _ => Label::Undecided,
-            })
-            .collect()
-    }
-
-    #[test]
-    fn two_continuations_are_as_good_as_all() {
-        for n in 1..=5 {
-            for length in 0..=8 {
-                for known in sequences(length) {
-                    let all = settle_by_all(n, &known, n - 1);
-                    assert_eq!(settle(n, &known), all, "n {n}, marks {known:?}");
-                }
-            }
-        }
-    }
-
-    #[test]
-    fn longer_continuations_change_nothing() {
-        for n in 1..=4 {
-            for length in 0..=6 {
-                for known in sequences(length) {
-                    let all = settle_by_all(n, &known, 2 * n);
-                    assert_eq!(settle(n, &known), all, "n {n}, marks {known:?}");
-                }
-            }
-        }
-    }
+    Ok(bytes)
 }

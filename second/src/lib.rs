@@ -1,7 +1,5 @@
-//! A second program for document 01, written from its words alone and naive on purpose. The library is compared with it.
-//!
-//! Nothing here is fast: labels go through the windows, undecided ones are found by continuing the marks, reports go over the
-//! intervals, and the running evaluator works out all labels again after each step. A summary is the list of intervals that made it.
+//! A second program for document 01, naive on purpose: a plain reference for interval records, labels, summaries, reports and verdicts, with
+//! percentile delay and range. The library is compared with it. READINGS.md has the places where 01 can be read in two ways.
 
 pub mod delays;
 pub mod evaluator;

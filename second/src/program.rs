@@ -1,42 +1,32 @@
-//! The program: two files to twelve lines.
+//! What the program prints for the content of its two files, each None where it cannot be read.
 
 use crate::labels::read_stretch;
-use crate::records::*;
-use crate::refusals::*;
-use crate::reports::*;
-use crate::verdicts::*;
+use crate::records::read_settings;
+use crate::refusals::{refuse, whole, Answer, SETTINGS};
+use crate::reports::report_of;
+use crate::verdicts::judge;
 
-fn month(settings: &[u8], intervals: &[u8]) -> Answer<String> {
+fn answer(settings: &[u8], intervals: &[u8]) -> Answer<String> {
     let Some(s) = read_settings(settings) else {
         return refuse(SETTINGS, 0);
     };
-    let known = read_stretch(&whole(intervals, 48)?, 0)?;
-    let r = report_of(&s.label, &known, 0, known.len());
-    let v = judge(&s, &r).map(Verdict::text);
-    let lines = [
+    let stretch = read_stretch(&whole(intervals, 48)?, 0)?;
+    let r = report_of(&s.label, &stretch, 0, stretch.len());
+    let v = judge(&s, &r);
+    let mut lines = vec![
         format!("length {} maintenance {}", r.length, r.maintenance),
-        format!(
-            "available {} unavailable {} undecided {}",
-            r.available, r.unavailable, r.undecided
-        ),
+        format!("available {} unavailable {} undecided {}", r.available, r.unavailable, r.undecided),
         format!("high {} runs {}", r.high, r.runs),
         format!("sent {} lost {}", r.sent, r.lost),
         format!("delay {} {} {}", r.sum, r.least, r.most),
-        format!(
-            "composite {} {} {}",
-            r.acceptable, r.unacceptable, r.undecided_composite
-        ),
-        format!("availability {}", v[0]),
-        format!("composite {}", v[1]),
-        format!("loss {}", v[2]),
-        format!("mean {}", v[3]),
-        format!("high {}", v[4]),
-        format!("runs {}", v[5]),
+        format!("composite {} {} {}", r.acceptable, r.unacceptable, r.undecided_composite),
     ];
-    Ok(lines.map(|line| line + "\n").concat())
+    for (k, name) in ["availability", "composite", "loss", "mean", "high", "runs"].iter().enumerate() {
+        lines.push(format!("{} {}", name, v[k].text()));
+    }
+    Ok(lines.join("\n") + "\n")
 }
 
-/// What the program prints; a file that cannot be read is none.
 pub fn evaluate(settings: Option<Vec<u8>>, intervals: Option<Vec<u8>>) -> String {
     let Some(settings) = settings else {
         return "no file settings.rec\n".to_string();
@@ -44,8 +34,8 @@ pub fn evaluate(settings: Option<Vec<u8>>, intervals: Option<Vec<u8>>) -> String
     let Some(intervals) = intervals else {
         return "no file intervals.rec\n".to_string();
     };
-    match month(&settings, &intervals) {
+    match answer(&settings, &intervals) {
         Ok(text) => text,
-        Err(r) => format!("refused {} {}\n", r.number, r.place),
+        Err(refusal) => format!("refused {} {}\n", refusal.number, refusal.place),
     }
 }

@@ -1,24 +1,31 @@
-//! The settings, frame and interval records and their rules.
+//! The records of fixed size, settings, frames and intervals: read from bytes, or None where a rule of theirs is broken.
 
 pub const INTERVALS: u64 = 3_000_000;
 pub const FRAMES: u64 = 4_096;
 pub const LARGEST_DELAY: u64 = 1_000_000_000;
 pub const MILLION: u64 = 1_000_000;
 
-/// A little-endian number of `size` bytes from byte `at`.
-fn number(bytes: &[u8], at: usize, size: usize) -> u64 {
+fn byte(s: &[u8], at: usize) -> u64 {
+    s[at] as u64
+}
+
+/// The little-endian number in `size` bytes from `at` on.
+fn number(s: &[u8], at: usize, size: usize) -> u64 {
     let mut value = 0;
-    for i in (0..size).rev() {
-        value = value * 256 + bytes[at + i] as u64;
+    for k in (0..size).rev() {
+        value = value * 256 + byte(s, at + k);
     }
     value
 }
 
-fn all_zero(bytes: &[u8]) -> bool {
-    bytes.iter().all(|b| *b == 0)
+fn word(s: &[u8], at: usize) -> u64 {
+    number(s, at, 4)
 }
 
-/// The first 24 bytes of the settings. The length is in ms, C and U in parts per million, DL and Jt in ns.
+fn all_zero(s: &[u8]) -> bool {
+    s.iter().all(|&b| b == 0)
+}
+
 #[derive(Clone, Copy, Debug, PartialEq, Eq)]
 pub struct LabelSettings {
     pub length: u64,
@@ -33,26 +40,27 @@ pub struct LabelSettings {
 
 impl LabelSettings {
     pub fn meets_rules(&self) -> bool {
-        let parts = 1..=999_999;
-        let delay = 0..=LARGEST_DELAY;
         (100..=60_000).contains(&self.length)
             && (1..=64).contains(&self.n)
-            && (self.p == 0 || (2..self.n).contains(&self.p))
+            && (self.p == 0 || (2 <= self.p && self.p < self.n))
             && (1..=7).contains(&self.weights)
-            && parts.contains(&self.c)
-            && parts.contains(&self.u)
-            && delay.contains(&self.dl)
-            && delay.contains(&self.jt)
+            && (1..=999_999).contains(&self.c)
+            && (1..=999_999).contains(&self.u)
+            && self.dl <= LARGEST_DELAY
+            && self.jt <= LARGEST_DELAY
     }
 
+    /// 1 where lost frames count for the composite indicator, else 0.
     pub fn loss_weight(&self) -> u64 {
         self.weights % 2
     }
 
+    /// 1 where late frames count for the composite indicator, else 0.
     pub fn delay_weight(&self) -> u64 {
         self.weights / 2 % 2
     }
 
+    /// 1 where jumpy pairs count for the composite indicator, else 0.
     pub fn variation_weight(&self) -> u64 {
         self.weights / 4 % 2
     }
@@ -77,37 +85,39 @@ pub fn read_settings(s: &[u8]) -> Option<Settings> {
         return None;
     }
     let label = LabelSettings {
-        length: number(s, 0, 4),
-        n: number(s, 4, 1),
-        p: number(s, 5, 1),
-        weights: number(s, 6, 1),
-        c: number(s, 8, 4),
-        u: number(s, 12, 4),
-        dl: number(s, 16, 4),
-        jt: number(s, 20, 4),
+        length: word(s, 0),
+        n: byte(s, 4),
+        p: byte(s, 5),
+        weights: byte(s, 6),
+        c: word(s, 8),
+        u: word(s, 12),
+        dl: word(s, 16),
+        jt: word(s, 20),
     };
     let settings = Settings {
         label,
-        least_availability: number(s, 24, 4),
-        least_composite: number(s, 28, 4),
-        most_loss: number(s, 32, 4),
-        most_mean: number(s, 36, 4),
-        most_high: number(s, 40, 4),
-        most_runs: number(s, 44, 4),
-        percentile: number(s, 48, 4),
-        most_delay: number(s, 52, 4),
-        most_range: number(s, 56, 4),
+        least_availability: word(s, 24),
+        least_composite: word(s, 28),
+        most_loss: word(s, 32),
+        most_mean: word(s, 36),
+        most_high: word(s, 40),
+        most_runs: word(s, 44),
+        percentile: word(s, 48),
+        most_delay: word(s, 52),
+        most_range: word(s, 56),
     };
-    let spare = all_zero(&s[7..8]) && all_zero(&s[60..64]);
-    let parts = settings.least_availability <= MILLION
+    let good = label.meets_rules()
+        && s[7] == 0
+        && settings.least_availability <= MILLION
         && settings.least_composite <= MILLION
         && settings.most_loss <= MILLION
-        && (1..=MILLION).contains(&settings.percentile);
-    let delays = settings.most_mean <= LARGEST_DELAY
+        && settings.most_mean <= LARGEST_DELAY
+        && (label.p != 0 || settings.most_runs == 0)
+        && (1..=MILLION).contains(&settings.percentile)
         && settings.most_delay <= LARGEST_DELAY
-        && settings.most_range <= LARGEST_DELAY;
-    let runs = label.p != 0 || settings.most_runs == 0;
-    if label.meets_rules() && spare && parts && delays && runs {
+        && settings.most_range <= LARGEST_DELAY
+        && all_zero(&s[60..64]);
+    if good {
         Some(settings)
     } else {
         None
@@ -122,20 +132,16 @@ pub struct Frame {
 }
 
 pub fn read_frame(s: &[u8]) -> Option<Frame> {
-    let frame = Frame {
-        time: number(s, 0, 8),
-        delay: number(s, 8, 4),
-        lost: s[12] == 1,
-    };
-    let good = frame.delay <= LARGEST_DELAY
-        && s[12] <= 1
-        && all_zero(&s[13..16])
-        && (!frame.lost || frame.delay == 0);
-    if good {
-        Some(frame)
-    } else {
-        None
+    if s.len() != 16 {
+        return None;
     }
+    let time = number(s, 0, 8);
+    let delay = word(s, 8);
+    let state = byte(s, 12);
+    if delay > LARGEST_DELAY || state > 1 || !all_zero(&s[13..16]) || (state == 1 && delay != 0) {
+        return None;
+    }
+    Some(Frame { time, delay, lost: state == 1 })
 }
 
 #[derive(Clone, Copy, Debug, PartialEq, Eq)]
@@ -157,61 +163,58 @@ impl Interval {
         self.sent - self.lost
     }
 
-    fn meets_rules(&self) -> bool {
-        if self.number >= INTERVALS || self.sent > FRAMES || self.lost > self.sent {
-            return false;
-        }
-        let delivered = self.delivered();
-        let most_pairs = if delivered == 0 { 0 } else { delivered - 1 };
-        if self.late > delivered || self.jumpy > self.pairs || self.pairs > most_pairs {
-            return false;
-        }
-        if delivered == 0 {
-            return self.sum == 0 && self.least == 0 && self.most == 0;
-        }
-        self.least <= self.most
-            && self.most <= LARGEST_DELAY
-            && self.least as u128 * delivered as u128 <= self.sum as u128
-            && self.sum as u128 <= self.most as u128 * delivered as u128
-    }
-
     pub fn write(&self) -> Vec<u8> {
         let mut bytes = Vec::new();
-        for value in [
-            self.number,
-            self.sent,
-            self.lost,
-            self.late,
-            self.pairs,
-            self.jumpy,
-        ] {
-            bytes.extend_from_slice(&(value as u32).to_le_bytes());
+        for value in [self.number, self.sent, self.lost, self.late, self.pairs, self.jumpy] {
+            bytes.extend((value as u32).to_le_bytes());
         }
-        bytes.extend_from_slice(&self.sum.to_le_bytes());
-        for value in [self.least, self.most] {
-            bytes.extend_from_slice(&(value as u32).to_le_bytes());
-        }
+        bytes.extend(self.sum.to_le_bytes());
+        bytes.extend((self.least as u32).to_le_bytes());
+        bytes.extend((self.most as u32).to_le_bytes());
         bytes.push(self.maintenance as u8);
-        bytes.extend_from_slice(&[0; 7]);
+        bytes.extend([0; 7]);
         bytes
     }
 }
 
 pub fn read_interval(s: &[u8]) -> Option<Interval> {
-    let interval = Interval {
-        number: number(s, 0, 4),
-        sent: number(s, 4, 4),
-        lost: number(s, 8, 4),
-        late: number(s, 12, 4),
-        pairs: number(s, 16, 4),
-        jumpy: number(s, 20, 4),
+    if s.len() != 48 {
+        return None;
+    }
+    let maintenance = byte(s, 40);
+    if maintenance > 1 || !all_zero(&s[41..48]) {
+        return None;
+    }
+    let i = Interval {
+        number: word(s, 0),
+        sent: word(s, 4),
+        lost: word(s, 8),
+        late: word(s, 12),
+        pairs: word(s, 16),
+        jumpy: word(s, 20),
         sum: number(s, 24, 8),
-        least: number(s, 32, 4),
-        most: number(s, 36, 4),
-        maintenance: s[40] == 1,
+        least: word(s, 32),
+        most: word(s, 36),
+        maintenance: maintenance == 1,
     };
-    if s[40] <= 1 && all_zero(&s[41..48]) && interval.meets_rules() {
-        Some(interval)
+    if i.number >= INTERVALS || i.sent > FRAMES || i.lost > i.sent {
+        return None;
+    }
+    let delivered = i.delivered();
+    let most_pairs = if delivered == 0 { 0 } else { delivered - 1 };
+    if i.late > delivered || i.pairs > most_pairs || i.jumpy > i.pairs {
+        return None;
+    }
+    let delays = if delivered == 0 {
+        i.sum == 0 && i.least == 0 && i.most == 0
+    } else {
+        i.least <= i.most
+            && i.most <= LARGEST_DELAY
+            && i.least as u128 * delivered as u128 <= i.sum as u128
+            && i.sum as u128 <= i.most as u128 * delivered as u128
+    };
+    if delays {
+        Some(i)
     } else {
         None
     }

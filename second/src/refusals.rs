@@ -1,4 +1,4 @@
-//! The numbered refusals.
+//! The numbered refusals, and the checks of lengths and room that several operations share.
 
 pub const SETTINGS: u32 = 1;
 pub const LENGTH: u32 = 2;
@@ -10,7 +10,6 @@ pub const ORDER: u32 = 7;
 pub const MISMATCH: u32 = 8;
 pub const PAIRS: u32 = 9;
 
-/// A number and the place of the first faulty record, counted from 0.
 #[derive(Clone, Copy, Debug, PartialEq, Eq)]
 pub struct Refusal {
     pub number: u32,
@@ -19,23 +18,19 @@ pub struct Refusal {
 
 pub type Answer<T> = Result<T, Refusal>;
 
-/// Refuses with this number at this place.
 pub fn refuse<T>(number: u32, place: usize) -> Answer<T> {
-    Err(Refusal {
-        number,
-        place: place as u64,
-    })
+    Err(Refusal { number, place: place as u64 })
 }
 
-/// Refusal 3: `size` bytes from `at` in a buffer of `length` bytes. Worked out in numbers that cannot wrap.
+/// ROOM unless a buffer of `length` bytes has `size` bytes from `at` on.
 pub fn room(length: usize, at: usize, size: usize) -> Answer<()> {
-    if at as u128 + size as u128 > length as u128 {
+    if at > length || length - at < size {
         return refuse(ROOM, 0);
     }
     Ok(())
 }
 
-/// Refusal 2: the records of `bytes`, each of `size` bytes.
+/// The records of `size` bytes each, or LENGTH where they do not come out even.
 pub fn whole(bytes: &[u8], size: usize) -> Answer<Vec<&[u8]>> {
     if bytes.len() % size != 0 {
         return refuse(LENGTH, 0);
@@ -43,7 +38,10 @@ pub fn whole(bytes: &[u8], size: usize) -> Answer<Vec<&[u8]>> {
     Ok(bytes.chunks(size).collect())
 }
 
-/// Refusal 3 for an output of words.
+/// ROOM unless a word output of `length` words takes `size` words.
 pub fn room_for_words(length: usize, size: usize) -> Answer<()> {
-    room(length, 0, size)
+    if length < size {
+        return refuse(ROOM, 0);
+    }
+    Ok(())
 }

@@ -1,9 +1,9 @@
-//! The report of a period: the middle one of three adjoining summaries.
+//! The report of a period, by going over its intervals.
 
-use crate::labels::*;
-use crate::records::*;
-use crate::refusals::*;
-use crate::summaries::*;
+use crate::labels::{both_tracks, high_loss, Label};
+use crate::records::{Interval, LabelSettings};
+use crate::refusals::{refuse, room_for_words, Answer, LENGTH};
+use crate::summaries::{all_valid, equal_settings, from_zero, Summary, SUMMARY_BYTES};
 
 #[derive(Clone, Copy, Debug, Default, PartialEq, Eq)]
 pub struct Report {
@@ -46,46 +46,29 @@ impl Report {
     }
 }
 
-/// The stretches of consecutive `true`, by their lengths.
-fn stretches(marks: &[bool]) -> Vec<u64> {
-    let mut lengths = Vec::new();
-    let mut length = 0;
-    for mark in marks {
-        if *mark {
-            length += 1;
-        } else if length > 0 {
-            lengths.push(length);
-            length = 0;
-        }
-    }
-    if length > 0 {
-        lengths.push(length);
-    }
-    lengths
-}
-
-/// The report of the intervals `from` to `to` (not included) of a whole known sequence from 0.
+/// The report of the period from `from` to before `to`; `known` are all the known intervals, from 0 on.
 pub fn report_of(s: &LabelSettings, known: &[Interval], from: usize, to: usize) -> Report {
     let (loss, composite) = both_tracks(s, known);
-    let mut r = Report {
-        length: (to - from) as u64,
-        ..Report::default()
-    };
-    let mut high_intervals = Vec::new();
-    let mut leasts = Vec::new();
-    let mut mosts = Vec::new();
+    let mut r = Report { length: (to - from) as u64, ..Report::default() };
+    let mut delivering: Vec<&Interval> = Vec::new();
+    let mut high = Vec::new();
     for k in from..to {
         let i = &known[k];
-        let counts = !i.maintenance;
-        let available = counts && loss[k] == Label::Available;
-        let high = available && high_loss(s, i);
-        high_intervals.push(high);
+        high.push(loss[k] == Label::Available && !i.maintenance && high_loss(s, i));
         if i.maintenance {
             r.maintenance += 1;
             continue;
         }
         match loss[k] {
-            Label::Available => r.available += 1,
+            Label::Available => {
+                r.available += 1;
+                r.sent += i.sent;
+                r.lost += i.lost;
+                r.sum += i.sum;
+                if i.delivered() > 0 {
+                    delivering.push(i);
+                }
+            }
             Label::Unavailable => r.unavailable += 1,
             Label::Undecided => r.undecided += 1,
         }
@@ -94,43 +77,26 @@ pub fn report_of(s: &LabelSettings, known: &[Interval], from: usize, to: usize) 
             Label::Unavailable => r.unacceptable += 1,
             Label::Undecided => r.undecided_composite += 1,
         }
-        if high {
-            r.high += 1;
-        }
-        if available {
-            r.sent += i.sent;
-            r.lost += i.lost;
-            r.sum += i.sum;
-            if i.delivered() > 0 {
-                leasts.push(i.least);
-                mosts.push(i.most);
-            }
-        }
     }
-    r.least = leasts.iter().min().copied().unwrap_or(0);
-    r.most = mosts.iter().max().copied().unwrap_or(0);
-    if s.p != 0 {
-        r.runs = stretches(&high_intervals)
-            .iter()
-            .filter(|length| **length >= s.p)
-            .count() as u64;
+    r.least = delivering.iter().map(|i| i.least).min().unwrap_or(0);
+    r.most = delivering.iter().map(|i| i.most).max().unwrap_or(0);
+    r.high = high.iter().filter(|&&h| h).count() as u64;
+    if s.p > 0 {
+        r.runs = high.split(|&h| !h).filter(|stretch| stretch.len() as u64 >= s.p).count() as u64;
     }
     r
 }
 
-/// The report of three adjoining summaries that were found valid, of equal settings and from 0.
+/// The report of the middle one of three good summaries.
 pub fn report_of_three(three: &[&Summary]) -> Report {
-    let known: Vec<Interval> = three.iter().flat_map(|s| s.intervals.clone()).collect();
+    let mut known = Vec::new();
+    for summary in three {
+        known.extend(&summary.intervals);
+    }
     let from = three[0].intervals.len();
-    report_of(
-        &three[0].settings,
-        &known,
-        from,
-        from + three[1].intervals.len(),
-    )
+    report_of(&three[0].settings, &known, from, from + three[1].intervals.len())
 }
 
-/// The report of `length` bytes that hold these records, for an output of `room_words` words. A record that breaks its rules is none.
 pub fn report(length: usize, records: &[Option<Summary>], room_words: usize) -> Answer<Report> {
     if length != 3 * SUMMARY_BYTES {
         return refuse(LENGTH, 0);

@@ -1,8 +1,8 @@
-//! A summary, held as what made it: label settings, first number and intervals.
+//! Summaries of stretches, held as what made them, and their join.
 
 use crate::labels::read_stretch;
-use crate::records::*;
-use crate::refusals::*;
+use crate::records::{read_settings, Interval, LabelSettings, INTERVALS};
+use crate::refusals::{refuse, room, whole, Answer, FIELD, LENGTH, MISMATCH, ORDER, SETTINGS};
 
 #[derive(Clone, Debug, PartialEq, Eq)]
 pub struct Summary {
@@ -20,7 +20,6 @@ impl Summary {
 
 pub const SUMMARY_BYTES: usize = 1_024;
 
-/// A summary, for a buffer of `room_length` bytes at offset `at`.
 pub fn summary(
     settings: &[u8],
     first: u64,
@@ -28,7 +27,7 @@ pub fn summary(
     room_length: usize,
     at: usize,
 ) -> Answer<Summary> {
-    let Some(settings) = read_settings(settings) else {
+    let Some(s) = read_settings(settings) else {
         return refuse(SETTINGS, 0);
     };
     let records = whole(intervals, 48)?;
@@ -37,70 +36,63 @@ pub fn summary(
         return refuse(FIELD, 0);
     }
     let intervals = read_stretch(&records, first)?;
-    Ok(Summary {
-        settings: settings.label,
-        first,
-        intervals,
-    })
+    Ok(Summary { settings: s.label, first, intervals })
 }
 
-/// The summaries of records, where a record that breaks its rules is none: refusal 5 for all, from the left.
+/// The summaries, or FIELD at the first record that breaks its rules.
 pub fn all_valid(records: &[Option<Summary>], first_place: usize) -> Answer<Vec<&Summary>> {
-    let mut valid = Vec::new();
-    for (i, record) in records.iter().enumerate() {
+    let mut summaries = Vec::new();
+    for (k, record) in records.iter().enumerate() {
         let Some(summary) = record else {
-            return refuse(FIELD, first_place + i);
+            return refuse(FIELD, first_place + k);
         };
-        valid.push(summary);
+        summaries.push(summary);
     }
-    Ok(valid)
+    Ok(summaries)
 }
 
-/// Refusal 8 between neighbours, at the later one.
+/// MISMATCH at the first summary whose label settings are not those of the one before.
 pub fn equal_settings(summaries: &[&Summary], first_place: usize) -> Answer<()> {
-    for i in 1..summaries.len() {
-        if summaries[i].settings != summaries[i - 1].settings {
-            return refuse(MISMATCH, first_place + i);
+    for k in 1..summaries.len() {
+        if summaries[k].settings != summaries[k - 1].settings {
+            return refuse(MISMATCH, first_place + k);
         }
     }
     Ok(())
 }
 
-/// Refusal 7 between neighbours, at the later one.
+/// ORDER at the first summary that does not begin where the one before ends.
 pub fn adjoining(summaries: &[&Summary], first_place: usize) -> Answer<()> {
-    for i in 1..summaries.len() {
-        if summaries[i].first != summaries[i - 1].after() {
-            return refuse(ORDER, first_place + i);
+    for k in 1..summaries.len() {
+        if summaries[k].first != summaries[k - 1].after() {
+            return refuse(ORDER, first_place + k);
         }
     }
     Ok(())
 }
 
-/// Refusal 7 for summaries that must start at 0 and adjoin.
+/// ORDER at the first summary where it does not start at 0, then as for adjoining ones.
 pub fn from_zero(summaries: &[&Summary], first_place: usize) -> Answer<()> {
-    if summaries[0].first != 0 {
+    if !summaries.is_empty() && summaries[0].first != 0 {
         return refuse(ORDER, first_place);
     }
     adjoining(summaries, first_place)
 }
 
-/// Two summaries joined, of slices of these lengths, for a buffer of `room_length` bytes at offset `at`.
 pub fn join(
     lengths: [usize; 2],
     records: &[Option<Summary>; 2],
     room_length: usize,
     at: usize,
 ) -> Answer<Summary> {
-    if lengths != [SUMMARY_BYTES; 2] {
+    if lengths[0] != SUMMARY_BYTES || lengths[1] != SUMMARY_BYTES {
         return refuse(LENGTH, 0);
     }
     room(room_length, at, SUMMARY_BYTES)?;
-    let both = all_valid(records, 0)?;
-    equal_settings(&both, 0)?;
-    adjoining(&both, 0)?;
-    Ok(Summary {
-        settings: both[0].settings,
-        first: both[0].first,
-        intervals: [both[0].intervals.clone(), both[1].intervals.clone()].concat(),
-    })
+    let two = all_valid(records, 0)?;
+    equal_settings(&two, 0)?;
+    adjoining(&two, 0)?;
+    let mut intervals = two[0].intervals.clone();
+    intervals.extend(&two[1].intervals);
+    Ok(Summary { settings: two[0].settings, first: two[0].first, intervals })
 }
