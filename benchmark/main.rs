@@ -2,13 +2,14 @@
 //! NAME in it.
 //!
 //! A module for each group of operations has the same work in plain Rust, written for speed, with every check of the library; `compare`
-//! holds the two to each other on damaged inputs, and `rows` gives the inputs to measure. To add an operation: its function in `library`, a
+//! holds the two to each other on damaged inputs, and `rows` gives the inputs to measure. To add an operation: its function in `comparison/exports.rs`, a
 //! module, and a line in `main`.
 mod delays;
 mod evaluator;
 mod frames;
 mod inputs;
 mod labels;
+#[path = "../comparison/exports.rs"]
 mod library;
 mod records;
 mod reports;

@@ -2,9 +2,7 @@
 use crate::inputs::*;
 use crate::library::*;
 use crate::random::Random;
-#[cfg(mip_step)]
 use second::evaluator::{EVALUATOR_WORDS, step_words};
-#[cfg(mip_step)]
 use second::records::*;
 
 pub fn start_case(r: &mut Random, _: u64) -> Result<(), String> {
@@ -19,7 +17,6 @@ pub fn start_case(r: &mut Random, _: u64) -> Result<(), String> {
 }
 
 /// One step on these words, both ways; what the words are afterwards.
-#[cfg(mip_step)]
 fn step_both(
     r: &mut Random,
     words: &[u64],
@@ -44,7 +41,6 @@ fn step_both(
 }
 
 /// Words near those of an evaluator that was fed.
-#[cfg(mip_step)]
 fn some_words(r: &mut Random, index: u64) -> Vec<u64> {
     let s = read_settings(&valid_settings(r)).unwrap().label;
     let n = s.n;
@@ -90,7 +86,6 @@ fn some_words(r: &mut Random, index: u64) -> Vec<u64> {
     words
 }
 
-#[cfg(mip_step)]
 pub fn step_case(r: &mut Random, index: u64) -> Result<(), String> {
     if index > 20 && r.one_in(3) {
         return feed_case(r);
@@ -118,7 +113,6 @@ pub fn step_case(r: &mut Random, index: u64) -> Result<(), String> {
 }
 
 /// A circuit from its start: each step against the second program's evaluator, which is fed the same records.
-#[cfg(mip_step)]
 fn feed_case(r: &mut Random) -> Result<(), String> {
     let s = valid_settings(r);
     let label = read_settings(&s).unwrap().label;

@@ -1,19 +1,14 @@
 //! The library against the second program, on many inputs: `./compare [SECONDS [SEED [OPERATION CASE]]]` builds and runs it.
-//! The time is split evenly among the operations that the archive has. A case is made from the seed, the operation's name and the
+//! The time is split evenly among the operations. A case is made from the seed, the operation's name and the
 //! case's number alone, so a case that fails can be run again by itself.
+mod delays;
+mod evaluator;
+mod exports;
 mod inputs;
+mod interval;
+mod labels;
 mod library;
 mod random;
-
-#[cfg(mip_delays)]
-mod delays;
-#[cfg(mip_start)]
-mod evaluator;
-#[cfg(mip_interval)]
-mod interval;
-#[cfg(mip_labels)]
-mod labels;
-#[cfg(mip_summary)]
 mod summaries;
 
 use random::Random;
@@ -31,27 +26,20 @@ struct Operation {
 }
 
 fn operations() -> Vec<Operation> {
-    let mut all: Vec<Operation> = Vec::new();
-    let mut add = |name, least, case| all.push(Operation { name, least, case });
-    #[cfg(mip_interval)]
-    add("mip_interval", 2_000, interval::case as Try);
-    #[cfg(mip_labels)]
-    add("mip_labels", 2_000, labels::case as Try);
-    #[cfg(mip_start)]
-    add("mip_start", 2_000, evaluator::start_case as Try);
-    #[cfg(mip_step)]
-    add("mip_step", 1_000, evaluator::step_case as Try);
-    #[cfg(mip_summary)]
-    add("mip_summary", 1_000, summaries::summary_case as Try);
-    #[cfg(mip_join)]
-    add("mip_join", 1_000, summaries::join_case as Try);
-    #[cfg(mip_report)]
-    add("mip_report", 1_000, summaries::report_case as Try);
-    #[cfg(mip_verdicts)]
-    add("mip_verdicts", 500, summaries::verdicts_case as Try);
-    #[cfg(mip_delays)]
-    add("mip_delays", 2_000, delays::case as Try);
-    all
+    let all: [(&str, u64, Try); 9] = [
+        ("mip_interval", 2_000, interval::case),
+        ("mip_labels", 2_000, labels::case),
+        ("mip_start", 2_000, evaluator::start_case),
+        ("mip_step", 1_000, evaluator::step_case),
+        ("mip_summary", 1_000, summaries::summary_case),
+        ("mip_join", 1_000, summaries::join_case),
+        ("mip_report", 1_000, summaries::report_case),
+        ("mip_verdicts", 500, summaries::verdicts_case),
+        ("mip_delays", 2_000, delays::case),
+    ];
+    all.into_iter()
+        .map(|(name, least, case)| Operation { name, least, case })
+        .collect()
 }
 
 /// Runs one case; a difference ends the program.

@@ -150,7 +150,6 @@ pub fn summary_case(r: &mut Random, index: u64) -> Result<(), String> {
 }
 
 /// Joins, where both are valid, of equal settings and adjoining.
-#[cfg(mip_join)]
 fn joined(left: &[u8], right: &[u8]) -> Result<Vec<u8>, String> {
     let mut bytes = vec![0x5a; SIZE];
     let got = join(left, right, &mut bytes, 0);
@@ -160,7 +159,6 @@ fn joined(left: &[u8], right: &[u8]) -> Result<Vec<u8>, String> {
 }
 
 /// Whether the library takes the bytes for a summary: joined with an empty one behind it, it is not refused for a field.
-#[cfg(mip_join)]
 fn taken(bytes: &[u8]) -> bool {
     let after = word_at(bytes, 4);
     let mut s = vec![0; 64];
@@ -254,7 +252,6 @@ fn cut(
     Ok(stretches)
 }
 
-#[cfg(mip_join)]
 pub fn join_case(r: &mut Random, index: u64) -> Result<(), String> {
     let s = valid_settings(r);
     let label = read_settings(&s).unwrap().label;
@@ -299,7 +296,6 @@ pub fn join_case(r: &mut Random, index: u64) -> Result<(), String> {
 }
 
 /// A join at any offset, with other lengths, settings, order and broken rules: the refusal is the second program's.
-#[cfg(mip_join)]
 fn refused_joins(r: &mut Random, s: &[u8], whole: &Both, stretches: &[Both]) -> Result<(), String> {
     let k = r.index(stretches.len());
     let (mut left, mut right) = (
@@ -373,7 +369,6 @@ fn other_label(r: &mut Random, s: &[u8]) -> Vec<u8> {
 
 /// Bytes changed anywhere: refused for a field wherever they are given, or taken, and then every join that adjoins is answered with a
 /// summary that is taken too, and an empty one on either side changes nothing.
-#[cfg(mip_join)]
 fn damaged_joins(r: &mut Random, whole: &Both, stretches: &[Both]) -> Result<(), String> {
     let (one, other) = (r.pick(stretches), r.pick(stretches));
     let bytes = perhaps_damaged(r, &one, &other);
@@ -423,7 +418,6 @@ fn damaged_joins(r: &mut Random, whole: &Both, stretches: &[Both]) -> Result<(),
 }
 
 /// Three adjoining summaries from 0.
-#[cfg(mip_report)]
 fn three(r: &mut Random, s: &[u8], count: usize) -> Result<Vec<Both>, String> {
     let label = read_settings(s).unwrap().label;
     let intervals = valid_intervals(r, &label, 0, count);
@@ -431,7 +425,6 @@ fn three(r: &mut Random, s: &[u8], count: usize) -> Result<Vec<Both>, String> {
 }
 
 /// Breaks one of several summaries, their settings or their order.
-#[cfg(mip_report)]
 fn spoil(r: &mut Random, s: &[u8], all: &mut [Both]) -> Result<(), String> {
     let k = r.index(all.len());
     match r.below(5) {
@@ -457,17 +450,14 @@ fn spoil(r: &mut Random, s: &[u8], all: &mut [Both]) -> Result<(), String> {
     Ok(())
 }
 
-#[cfg(mip_report)]
 fn bytes_of(all: &[Both]) -> Vec<u8> {
     all.iter().flat_map(|b| b.bytes.clone()).collect()
 }
 
-#[cfg(mip_report)]
 fn models_of(all: &[Both]) -> Vec<Option<Summary>> {
     all.iter().map(|b| b.model.clone()).collect()
 }
 
-#[cfg(mip_report)]
 fn shown_models(s: &[u8], all: &[Both]) -> String {
     let one = |b: &Both| match &b.model {
         None => format!("broken {}", hex(&b.bytes)),
@@ -485,7 +475,6 @@ fn shown_models(s: &[u8], all: &[Both]) -> String {
     )
 }
 
-#[cfg(mip_report)]
 pub fn report_case(r: &mut Random, index: u64) -> Result<(), String> {
     let s = valid_settings(r);
     let count = match index {
@@ -524,7 +513,6 @@ pub fn report_case(r: &mut Random, index: u64) -> Result<(), String> {
 }
 
 /// Objectives at the edge of a pair's figures.
-#[cfg(mip_verdicts)]
 fn edge_objectives(r: &mut Random, s: &mut [u8], f: &second::reports::Report) {
     let near =
         |r: &mut Random, value: u64, most: u64| (value + r.below(3)).saturating_sub(1).min(most);
@@ -564,7 +552,6 @@ fn edge_objectives(r: &mut Random, s: &mut [u8], f: &second::reports::Report) {
     put(s, 44, runs);
 }
 
-#[cfg(mip_verdicts)]
 pub fn verdicts_case(r: &mut Random, index: u64) -> Result<(), String> {
     let mut s = valid_settings(r);
     let mut pairs = match index {

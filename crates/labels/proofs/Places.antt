@@ -28,7 +28,8 @@ use Rattle.labels.specs.declared.stretch.Labelled.{Labelled}
 refused-place : (f : Fault) (k : ℕ) (x : Refusal) → Sequence.Refused (refusal f k) ≡ Sequence.Refused x → x .place ≡ k
 refused-place f k x e = cc
 
-checked-place : (m : ℕ) (s : List ℕ) (j next place : ℕ) (x : Refusal) → next ≤ intervals → checked next place (readsFrom m s j) ≡ Sequence.Refused x → x .place + next ≤ place + intervals
+-- each good record brings the next number nearer to the last
+pub checked-place : (m : ℕ) (s : List ℕ) (j next place : ℕ) (x : Refusal) → next ≤ intervals → checked next place (readsFrom m s j) ≡ Sequence.Refused x → x .place + next ≤ place + intervals
 unfolding checked readsFrom
 checked-place zero s j next place x h e = absurd (never e)
   where

@@ -71,7 +71,6 @@ fn judge(w: Wanted, base: usize, a: Stretch, b: Stretch, c: Stretch) -> Reported
     requires { ⌜ (base ≤ places) × ThreeRead a b c ⌝ }
     ensures { λ r. ⌜ r ≡ judgedThree w base a b c ⌝ }
 {
-    let starts = from_zero(a);
     if !suited(w, a) {
         return refused(Fault::Mismatch, base);
     }
@@ -81,7 +80,7 @@ fn judge(w: Wanted, base: usize, a: Stretch, b: Stretch, c: Stretch) -> Reported
     if !alike(b, c) {
         return refused(Fault::Mismatch, base + 2);
     }
-    if !starts {
+    if !from_zero(a) {
         return refused(Fault::Order, base);
     }
     if !adjoining(a, b) {

@@ -25,7 +25,7 @@ unfolding spanOf
 span-split e x y z q = ap spanOf q
 
 -- a sum of delays is at most the largest delay for each frame
-sum-bound : (l : Load) → LoadValid l → l .sum ≤ largestDelay * (frames * l .count)
+pub sum-bound : (l : Load) → LoadValid l → l .sum ≤ largestDelay * (frames * l .count)
 sum-bound l v = le-trans (v .to) (mul-le-mul (v .within) (omega (arith, v .few)))
 
 loads-fit : (a b : Load) → LoadValid a → LoadValid b → a .count + b .count ≤ intervals → LoadsFit a b
@@ -39,7 +39,7 @@ loads-fit a b v w room =
     }
 
 -- there are no more runs than intervals
-runs-few : (p : ℕ) (f : Figures) → FiguresValid p f → f .runs ≤ f .load .count
+pub runs-few : (p : ℕ) (f : Figures) → FiguresValid p f → f .runs ≤ f .load .count
 runs-few zero f v = omega (arith, v .unasked refl)
 runs-few (suc p) f v = omega (arith, v .runs, v .high)
 

@@ -3,8 +3,7 @@
 -- Assumes nothing.
 use mathlib.Core.Path.{_≡_, refl}
 use mathlib.Core.Bool.{Bool, true, false}
-use Prim.Native.Nat.{ℕ, zero, suc, _*_, _≤_}
-use native.Mathlib.Nat.{mul-le-mul, le-trans}
+use Prim.Native.Nat.{ℕ, _≤_}
 use native.Mathlib.Omega.{arith}
 use Rattle.records.specs.Limits.{intervals, frames, largestDelay}
 use Rattle.runs.specs.declared.figures.Load.{Load}
@@ -13,13 +12,10 @@ use Rattle.runs.specs.declared.middles.Middle.{Middle}
 use Rattle.runs.specs.declared.run.Edges.{Edges}
 use Rattle.runs.specs.declared.run.Run.{Run}
 use Rattle.runs.specs.Valid.{LoadValid, FiguresValid, EdgesValid, EdgesFor, RunValid, MiddleValid}
+use Rattle.runs.proofs.Fitting.{sum-bound, runs-few}
 use Rattle.tracks.specs.declared.Track.{Track}
 use Rattle.tracks.specs.Valid.{TrackValid}
 use Rattle.layout.proofs.RoundTrip.{LoadInField, FiguresInField, EdgesInField, RunInField, MiddleInField, TrackInField}
-
--- a sum of delays is at most the largest delay for each frame
-sum-bound : (l : Load) → LoadValid l → l .sum ≤ largestDelay * (frames * l .count)
-sum-bound l v = le-trans (v .to) (mul-le-mul (v .within) (omega (arith, v .few)))
 
 load-in-field : (l : Load) → LoadValid l → l .count ≤ intervals → LoadInField l
 unfolding intervals frames largestDelay
@@ -32,11 +28,6 @@ load-in-field l v room =
       most-fits = omega (arith, v .within);
       headroom-fits = omega (arith, v .roomy);
     }
-
--- there are no more runs than intervals
-runs-few : (p : ℕ) (f : Figures) → FiguresValid p f → f .runs ≤ f .load .count
-runs-few zero f v = omega (arith, v .unasked refl)
-runs-few (suc p) f v = omega (arith, v .runs, v .high)
 
 figures-in-field : (p : ℕ) (f : Figures) → FiguresValid p f → f .load .count ≤ intervals → FiguresInField f
 unfolding intervals

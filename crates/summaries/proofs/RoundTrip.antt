@@ -3,7 +3,7 @@
 -- widths are known, and fits its fields by the rules.
 -- Assumes nothing.
 use mathlib.Core.Path.{_≡_, refl, ap, sym, _∙_}
-use mathlib.Core.Bool.{Bool, true, false}
+use mathlib.Core.Bool.{true}
 use mathlib.Core.List.{List, [], _∷_, _++_, append-assoc}
 use Prim.Native.Nat.{ℕ, zero, suc, _+_, _-_, _^_, _≤_, _<_}
 use native.Mathlib.Omega.{arith}
@@ -27,11 +27,11 @@ use Rattle.layout.proofs.RoundTrip.{TrackInField, track-read-write, track-words
 use Rattle.layout.proofs.Shifting.{zeros-at, track-at, words-at}
 use Rattle.layout.proofs.WriteRead.{track-write-read}
 use Rattle.layout.proofs.Sizes.{size-track}
-use Rattle.summaries.specs.Stored.{summaryIn, headerRules, headerMeets, trackRules, tracksMeet, summaryRules, validIf, summaryOf, summaryBytes}
+use Rattle.summaries.specs.Stored.{summaryIn, headerRules, headerMeets, trackRules, tracksMeet, summaryRules, summaryOf, summaryBytes}
 use Rattle.summaries.specs.declared.stored.Summary.{Summary}
 use Rattle.summaries.specs.declared.stored.SummaryRead.{SummaryRead}
 use Rattle.summaries.proofs.InField.{track-in-field}
-use Rattle.summaries.proofs.Validity.{SummaryValid}
+use Rattle.summaries.proofs.Validity.{SummaryValid, taken-out}
 
 -- the numbers and the label settings, whatever stands behind them
 
@@ -174,11 +174,7 @@ unfolding part
 taken-part s zero i h = refl
 taken-part s (suc w) i h = rw (drop-cons s i 0 (omega arith)) (ap (λ (l : List ℕ). getD s i 0 ∷ l) (taken-part s w (suc i) (omega arith)))
 
--- what is read is what stands in the bytes, and they meet every rule
-
-valid-if : (t : Bool) (w v : Summary) → validIf t w ≡ SummaryRead.Valid v → (t ≡ true) × (w ≡ v)
-valid-if true w v e = (refl, (cc))
-valid-if false w v e = let z : _≡_ {A = ℕ} 0 1 = cc in absurd (omega arith)
+-- the bytes of a valid summary are those written of its values
 
 in-pieces :
     (s : List ℕ) →
@@ -205,11 +201,11 @@ module _ (s : List ℕ) (h : Bytes s) where
 
 pub read-whole : (s : List ℕ) (v : Summary) → summaryOf s ≡ SummaryRead.Valid v → length s ≡ 1024
 unfolding summaryOf summaryRules
-read-whole s v e = eqb-true (length s) 1024 (rule-met (summaryRules s) 0 (valid-if (allMet (summaryRules s)) (summaryIn s) v e .0))
+read-whole s v e = eqb-true (length s) 1024 (rule-met (summaryRules s) 0 (taken-out (allMet (summaryRules s)) (summaryIn s) v e .0))
 
 pub write-read : (s : List ℕ) (v : Summary) → Bytes s → summaryOf s ≡ SummaryRead.Valid v → summaryBytes v ≡ s
 unfolding summaryOf summaryRules headerMeets headerRules
 write-read s v h e =
-    let r = valid-if (allMet (summaryRules s)) (summaryIn s) v e in
+    let r = taken-out (allMet (summaryRules s)) (summaryIn s) v e in
     let rules : (k : ℕ) → getD (headerRules s (summaryIn s)) k true ≡ true = λ k. rule-met (headerRules s (summaryIn s)) k (rule-met (summaryRules s) 1 (r .0)) in
     ap summaryBytes (sym (r .1)) ∙ bytes-back s h (read-whole s v e) (eqb-true (getD s 15 0) 0 (rules 3)) (rules 4) (rules 5) (rules 6)

@@ -37,7 +37,8 @@ facts s v h t =
       counts = eqb-true (countIn (v .loss)) (countIn (v .composite)) (rule-met (trackRules v) 2 t);
     }
 
-taken-out : (t : Bool) (w v : Summary) → validIf t w ≡ SummaryRead.Valid v → (t ≡ true) × (w ≡ v)
+-- what is read is what stands in the bytes, and they meet every rule
+pub taken-out : (t : Bool) (w v : Summary) → validIf t w ≡ SummaryRead.Valid v → (t ≡ true) × (w ≡ v)
 taken-out true w v e = (refl, (cc))
 taken-out false w v e = let z : _≡_ {A = ℕ} 0 1 = cc in absurd (omega arith)
 

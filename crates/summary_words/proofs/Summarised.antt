@@ -1,29 +1,27 @@
 -- `mip_summary` and `mip_join`: the place of a refusal fits its word, since a record before the faulty one is valid and has the next number, and of two
 -- summaries the later one is at place 1; and the outcomes as words.
-use Prim.Native.Nat.{ℕ, zero, suc, _+_, _/_, _≤_, _<_, _^_}
+use Prim.Native.Nat.{ℕ, _+_, _/_, _≤_, _<_, _^_}
 use mathlib.Core.Bool.{Bool, true, false}
-use mathlib.Core.List.{List, _∷_}
+use mathlib.Core.List.{List}
 use mathlib.Core.Path.{_≡_, refl, ap, sym, _∙_}
 use native.Mathlib.Decide.{decLe}
 use native.Mathlib.Omega.{arith}
 use lib.ListN.{length}
 use lib.Dec.{eqb}
-use borrow.Author.Tests.{eqb-true, le-ltb, lt-ltb}
-use Rattle.records.proofs.IntervalRecord.{interval-valid}
-use Rattle.records.specs.Interval.{intervalOf}
+use borrow.Author.Tests.{le-ltb, lt-ltb}
 use Rattle.records.specs.Limits.{intervals}
-use Rattle.records.specs.Many.{recordAt, countOf}
+use Rattle.records.specs.Many.{countOf}
 use Rattle.records.specs.Refusals.{refusal}
 use Rattle.records.specs.Room.{hasRoom}
-use Rattle.records.specs.Sequence.{readsFrom, intervalsIn, checked, orderedIf}
+use Rattle.records.specs.Sequence.{readsFrom, intervalsIn, checked}
 use Rattle.records.specs.Settings.{settingsOf, sameLabel}
-use Rattle.records.specs.declared.interval.IntervalRead.{IntervalRead}
 use Rattle.records.specs.declared.interval.Sequence.{Sequence}
 use Rattle.records.specs.declared.many.Counted.{Counted}
 use Rattle.records.specs.declared.refusal.Fault.{Fault}
 use Rattle.records.specs.declared.refusal.Refusal.{Refusal}
 use Rattle.records.specs.declared.settings.LabelSettings.{LabelSettings}
 use Rattle.records.specs.declared.settings.SettingsRead.{SettingsRead}
+use Rattle.labels.proofs.Places.{checked-place}
 use Rattle.summaries.specs.Joining
 use Rattle.summaries.specs.Making
 use Rattle.summaries.specs.Stored.{summaryOf}
@@ -40,23 +38,13 @@ faultPlace : Sequence → ℕ
 faultPlace Sequence.Sound = 0
 faultPlace (Sequence.Refused r) = r .place
 
--- each good record brings the next number nearer to the last
-checked-place : (n : ℕ) (s : List ℕ) (k next place : ℕ) → next ≤ intervals → faultPlace (checked next place (readsFrom n s k)) + next ≤ place + intervals
-unfolding faultPlace checked readsFrom
-checked-place zero s k next place h = omega arith
-checked-place (suc n) s k next place h = by (intervalOf (recordAt s 48 k)) refl (checked-place n s (suc k) (suc next) (suc place))
+fault-place : (n : ℕ) (s : List ℕ) (k next place : ℕ) → next ≤ intervals → faultPlace (checked next place (readsFrom n s k)) + next ≤ place + intervals
+unfolding faultPlace
+fault-place n s k next place h = by (checked next place (readsFrom n s k)) refl
   where
-    rest : Sequence
-    rest = checked (suc next) (suc place) (readsFrom n s (suc k))
-
-    by : (r : IntervalRead) → intervalOf (recordAt s 48 k) ≡ r → (suc next ≤ intervals → faultPlace rest + suc next ≤ suc place + intervals)
-        → faultPlace (checked next place (r ∷ readsFrom n s (suc k))) + next ≤ place + intervals
-    by IntervalRead.Invalid e further = omega arith
-    by (IntervalRead.Valid v) e further = ordered (eqb (v .number) next) refl
-      where
-        ordered : (z : Bool) → eqb (v .number) next ≡ z → faultPlace (orderedIf z place rest) + next ≤ place + intervals
-        ordered true f = omega (arith, further (omega (arith, eqb-true (v .number) next f, interval-valid (recordAt s 48 k) v e .number-fact)))
-        ordered false f = omega arith
+    by : (q : Sequence) → checked next place (readsFrom n s k) ≡ q → faultPlace q + next ≤ place + intervals
+    by Sequence.Sound e = omega arith
+    by (Sequence.Refused r) e = checked-place n s k next place r h e
 
 gatheredPlace : Gathered → ℕ
 gatheredPlace (Gathered.Good v) = 0
@@ -69,7 +57,7 @@ good-place (Sequence.Refused r) v h = h
 
 gathered-place : (l : LabelSettings) (first : ℕ) (s : List ℕ) → first ≤ intervals → gatheredPlace (Making.gathered l first s) ≤ intervals
 unfolding Making.gathered intervalsIn
-gathered-place l first s h = good-place (checked first 0 (intervalsIn s)) _ (omega (arith, checked-place (length s / 48) s 0 first 0 h))
+gathered-place l first s h = good-place (checked first 0 (intervalsIn s)) _ (omega (arith, fault-place (length s / 48) s 0 first 0 h))
 
 room-place : (l : LabelSettings) (room : Bool) (first : ℕ) (s : List ℕ) → gatheredPlace (Making.gatheredRoom l room first s) ≤ intervals
 unfolding gatheredPlace
