@@ -1,8 +1,7 @@
 // Circuits of some intervals, a letter each: H is sent 10, lost 10, and L is sent 10, lost 0, each frame delivered in 1,000 ns; N sent nothing. A small letter is in
 // maintenance.
-use records::bytes;
-use summaries::making;
-use summaries::making::Made;
+use making::Made;
+use numbers::bytes;
 
 // Room for 72 intervals.
 pub const RECORDS: usize = 3456;

@@ -1,11 +1,9 @@
 // Stretches of one interval each, joined from left to right, from right to left and in pairs: each gives the bytes of the uncut stretch.
 use crate::circuit;
 use crate::circuit::RECORDS;
-use records::bytes;
-use summaries::joining;
-use summaries::joining::Joined;
-use summaries::making;
-use summaries::making::Made;
+use joining::Joined;
+use making::Made;
+use numbers::bytes;
 ghost use Prim.Native.Nat.{_≤_};
 
 // The summary of the records from the `a`-th on to before the `b`-th.

@@ -1,11 +1,9 @@
 // Reports of a period between two stretches, and its verdicts.
 use crate::circuit;
 use crate::circuit::RECORDS;
-use records::bytes;
-use reports::sets;
-use reports::sets::Judged;
-use reports::three;
-use reports::three::Reported;
+use numbers::bytes;
+use reports::Reported;
+use sets::Judged;
 use tallies::Period;
 use verdicts::Verdict;
 use verdicts::Verdicts;
@@ -43,7 +41,7 @@ fn show_rest(r: Period) {
 }
 
 fn show_report(three: &[u8]) {
-    match three::report(three) {
+    match reports::report(three) {
         Reported::Answered(r) => {
             show_loss(r);
             show_rest(r);

@@ -2,7 +2,7 @@
 use crate::circuit;
 use crate::circuit::RECORDS;
 use crate::periods_of;
-use records::bytes;
+use numbers::bytes;
 
 // Available 15 of 17.
 fn fifteen_of_seventeen(objective: u32) {

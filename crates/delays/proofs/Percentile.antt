@@ -9,7 +9,7 @@ use native.Mathlib.Nat.{le-refl, mul-le-mul-left, mul-le-mul-right}
 use native.Mathlib.Omega.{arith}
 use lib.ListN.{length}
 use borrow.Author.Tests.{le-leb, leb-true}
-use Rattle.records.specs.Limits.{million}
+use Rattle.numbers.specs.Limits.{million}
 use Rattle.delays.specs.Percentile.{howMany, keep, atMost, reaches, leastFrom, least, percentile, IsPercentile}
 use Rattle.delays.specs.Ranks.{below, Ranked}
 use Rattle.delays.proofs.Counts.{lt-one, ge-none, le-one, gt-none, below-mono, atMost-below}

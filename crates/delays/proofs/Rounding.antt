@@ -2,7 +2,7 @@
 use Prim.Native.Nat.{ℕ, _+_, _*_, _/_, _^_, _<_, _≤_}
 use native.Mathlib.Nat.{mul-le-mul-right}
 use native.Mathlib.Omega.{arith}
-use Rattle.records.specs.Limits.{delays, million}
+use Rattle.numbers.specs.Limits.{delays, million}
 use Rattle.delays.specs.Outcome.{Rank}
 
 product-most : (pr n : ℕ) → pr ≤ million → pr * n ≤ million * n

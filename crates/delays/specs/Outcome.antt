@@ -4,10 +4,10 @@ use mathlib.Core.Bool.{Bool, true, false}
 use mathlib.Core.List.{List}
 use lib.ListN.{length}
 use lib.Dec.{leb, ltb}
-use Rattle.records.specs.Limits.{delays, largestDelay, million}
-use Rattle.records.specs.Refusals.{refusal}
+use Rattle.numbers.specs.Limits.{delays, largestDelay, million}
+use Rattle.numbers.specs.Refusals.{refusal}
+use Rattle.numbers.specs.declared.refusal.Fault.{Fault}
 use Rattle.records.specs.Settings.{settingsOf}
-use Rattle.records.specs.declared.refusal.Fault.{Fault}
 use Rattle.records.specs.declared.settings.Settings.{Settings}
 use Rattle.records.specs.declared.settings.SettingsRead.{SettingsRead}
 use Rattle.delays.specs.Percentile.{percentile, range, placeAbove}

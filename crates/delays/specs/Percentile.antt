@@ -4,7 +4,7 @@ use mathlib.Core.Bool.{Bool, true, false, cond}
 use mathlib.Core.List.{List, [], _∷_, List·Memᴰ}
 use lib.ListN.{length}
 use lib.Dec.{leb}
-use Rattle.records.specs.Limits.{million}
+use Rattle.numbers.specs.Limits.{million}
 
 -- The members of a list that pass a test.
 unfoldable pub keep : (ℕ → Bool) → List ℕ → List ℕ

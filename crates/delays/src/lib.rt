@@ -2,15 +2,15 @@
 mod few;
 mod table;
 
-use records::limits;
-use records::refusal::Fault;
-use records::refusal::Refusal;
+use numbers::limits;
+use numbers::refusal::Fault;
+use numbers::refusal::Refusal;
 use records::settings;
 use records::settings::Settings;
 use records::settings::SettingsRead;
 ghost use mathlib.Core.Path.{_≡_};
 ghost use Prim.Native.Nat.{_<_, _≤_};
-ghost use Rattle.records.specs.Limits.{delays, million};
+ghost use Rattle.numbers.specs.Limits.{delays, million};
 ghost use Rattle.delays.specs.Percentile.{placeAbove};
 ghost use Rattle.delays.specs.Outcome.{Rank, answered, judged, outcome};
 

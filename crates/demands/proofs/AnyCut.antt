@@ -10,29 +10,31 @@ use native.Mathlib.Omega.{arith}
 use lib.ListN.{length, length-append}
 use lib.Dec.{ltb}
 use borrow.Author.Tests.{eq-eqb, le-ltb, ltb-false}
-use Rattle.records.specs.Limits.{intervals}
-use Rattle.records.specs.Many.{countOf}
-use Rattle.records.specs.Refusals.{refusal}
-use Rattle.records.specs.Room.{hasRoom}
+use Rattle.numbers.specs.Limits.{intervals}
+use Rattle.numbers.specs.Many.{countOf}
+use Rattle.numbers.specs.Refusals.{refusal}
+use Rattle.numbers.specs.Room.{hasRoom}
+use Rattle.numbers.specs.declared.many.Counted.{Counted}
+use Rattle.numbers.specs.declared.refusal.Fault.{Fault}
 use Rattle.records.specs.Sequence.{intervalsIn, checked}
 use Rattle.records.specs.Settings.{settingsOf}
 use Rattle.records.specs.declared.interval.Interval.{Interval}
 use Rattle.records.specs.declared.interval.Sequence.{Sequence}
-use Rattle.records.specs.declared.many.Counted.{Counted}
-use Rattle.records.specs.declared.refusal.Fault.{Fault}
 use Rattle.records.specs.declared.settings.LabelSettings.{LabelSettings}
 use Rattle.records.specs.declared.settings.Settings.{Settings}
 use Rattle.records.specs.declared.settings.SettingsRead.{SettingsRead}
 use Rattle.labels.specs.Stretch.{intervalsOf}
 use Rattle.labels.proofs.Placing.{read-label}
-use Rattle.summaries.specs.Joining.{good, judged, joinedOf}
-use Rattle.summaries.specs.Making.{madeOf, goodIf, gathered, gatheredCount, gatheredSettings, made}
 use Rattle.summaries.specs.Stored.{summaryBytes, summaryOf}
-use Rattle.summaries.specs.declared.making.Gathered.{Gathered}
-use Rattle.summaries.specs.declared.stored.Summary.{Summary}
-use Rattle.summaries.specs.declared.stored.SummaryRead.{SummaryRead}
-use Rattle.summaries.proofs.Joins.{never-refused}
-use Rattle.summaries.proofs.Made.{join-made, made-reads-back}
+use Rattle.summaries.specs.declared.Summary.{Summary}
+use Rattle.summaries.specs.declared.SummaryRead.{SummaryRead}
+use Rattle.summaries.specs.Made.{madeOf}
+use Rattle.summaries.proofs.Made.{made-reads-back}
+use Rattle.making.specs.Making.{goodIf, gathered, gatheredCount, gatheredSettings, made}
+use Rattle.making.specs.declared.Gathered.{Gathered}
+use Rattle.joining.proofs.Cut.{join-made}
+use Rattle.joining.specs.Joining.{good, judged, joinedOf}
+use Rattle.joining.proofs.Joins.{never-refused}
 use Rattle.feeding.proofs.Pieces.{records-both, records-many}
 use Rattle.feeding.proofs.Sound.{thenIf, checked-both, movedBy, checked-moved, intervals-both, SoundPart, sound-part}
 use Rattle.demands.specs.Cuts.{Cut, stretch, group, uncut, BetweenRecords, behind, summaryWrites, joinWrites, summarised}

@@ -6,7 +6,7 @@ use mathlib.Core.List.{List, _++_}
 use Prim.Native.Nat.{ℕ, _+_, _*_, _/_}
 use native.Mathlib.Omega.{arith}
 use lib.ListN.{length}
-use Rattle.records.specs.Limits.{intervals}
+use Rattle.numbers.specs.Limits.{intervals}
 use Rattle.records.specs.Settings.{settingsOf}
 use Rattle.records.specs.declared.settings.LabelSettings.{LabelSettings}
 use Rattle.records.specs.declared.settings.Settings.{Settings}
@@ -14,14 +14,14 @@ use Rattle.records.specs.declared.settings.SettingsRead.{SettingsRead}
 use Rattle.rule.specs.Labels.{Label}
 use Rattle.labels.proofs.Placing.{read-label}
 use Rattle.tallies.specs.Report.{Labelled, report}
-use Rattle.summaries.specs.Making.{made}
 use Rattle.summaries.specs.Stored.{summaryBytes}
-use Rattle.summaries.specs.declared.making.Gathered.{Gathered}
-use Rattle.summaries.specs.declared.stored.Summary.{Summary}
+use Rattle.summaries.specs.declared.Summary.{Summary}
+use Rattle.making.specs.Making.{made}
+use Rattle.making.specs.declared.Gathered.{Gathered}
 use Rattle.periods.specs.Stretches.{madeBytes, bytes-held}
 use Rattle.reports.specs.Circuits.{Circuit, threeBytes}
 use Rattle.reports.specs.Three.{reportOf}
-use Rattle.reports.specs.declared.three.Reported.{Reported}
+use Rattle.reports.specs.declared.Reported.{Reported}
 use Rattle.reports.proofs.Defined as defined
 use Rattle.demands.specs.Cuts.{Cut, uncut, BetweenRecords, behind, summarised}
 use Rattle.demands.proofs.AnyCut.{held, summaryAt, Sound, sound-facts, held-many, held-both, left-sound, right-sound, uncut-whole, cut-written, taken}

@@ -3,10 +3,10 @@ use Prim.Native.Nat.{ℕ, _+_, _*_, _/_}
 use mathlib.Core.Path.{_≡_}
 use mathlib.Core.List.{List, [], _++_}
 use lib.ListN.{length}
-use Rattle.summaries.specs.Joining.{Judged, good, bad, judged}
-use Rattle.summaries.specs.Making.{made}
 use Rattle.summaries.specs.Stored.{summaryBytes}
-use Rattle.summaries.specs.declared.making.Gathered.{Gathered}
+use Rattle.making.specs.Making.{made}
+use Rattle.making.specs.declared.Gathered.{Gathered}
+use Rattle.joining.specs.Joining.{Judged, good, bad, judged}
 
 -- the bytes of some records, or of none; or two such that are to be joined, the second behind the first
 pub data Cut : Type 0 where

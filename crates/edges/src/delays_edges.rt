@@ -1,7 +1,7 @@
 // Percentile delay and range: document 01's lines, and both sides of each limit. A line is the percentile, the range and the verdict
 // of each, or the refusal.
 use delays::Outcome;
-use records::bytes;
+use numbers::bytes;
 
 // Settings with these objectives for percentile and range.
 fn settings(pr: u32, delay: u32, range: u32) -> [u8; 64] {

@@ -5,8 +5,8 @@ use evaluator::Started;
 use evaluator::Stepped;
 use labels::stretch;
 use labels::stretch::Labelled;
-use records::bytes;
-use records::many;
+use numbers::bytes;
+use numbers::many;
 ghost use Prim.Native.Nat.{_+_, _≤_, _<_};
 
 // Room for eight records, and for their labels.

@@ -1,6 +1,6 @@
 // The edges of `interval`: how many frames, which times, which delays.
 use measure::Answer;
-use records::bytes;
+use numbers::bytes;
 
 // Room for one frame more than an interval takes.
 const ROOM: usize = 65_552;
@@ -42,7 +42,7 @@ fn show(name: &[u8], frames: &[u8], n: usize, number: u64, maintenance: u64) {
     printing::text(name);
     let answer = measure::interval(
         &s,
-        records::many::part(frames, 16 * (n % 5_000), 0),
+        numbers::many::part(frames, 16 * (n % 5_000), 0),
         number,
         maintenance,
         &mut out,

@@ -1,11 +1,11 @@
 // The byte-level edges: each field at its limit and one past it, each spare byte set, each length from 0 to twice the record.
 // A 1 is a record that is read, a 0 one that is not.
-use records::bytes;
+use numbers::bytes;
+use numbers::many;
 use records::frame;
 use records::frame::FrameRead;
 use records::interval;
 use records::interval::IntervalRead;
-use records::many;
 use records::settings;
 use records::settings::SettingsRead;
 ghost use Prim.Native.Nat.{_≤_};

@@ -2,8 +2,8 @@
 use files::Answer;
 use files::Concluded;
 use libc::STDOUT_FILENO;
-use records::refusal;
-use records::refusal::Refusal;
+use numbers::refusal;
+use numbers::refusal::Refusal;
 use tallies::Period;
 use verdicts::Verdict;
 

@@ -8,8 +8,9 @@ use native.Mathlib.Omega.{arith}
 use lib.Dec.{eqb}
 use lib.ListN.{length, length-map, length-append}
 use borrow.Author.Tests.{eq-eqb, eqb-true, le-leb}
+use Rattle.numbers.specs.Limits.{intervals}
+use Rattle.numbers.proofs.Rules.{rule-met}
 use Rattle.records.specs.Interval.{intervalOf, intervalRules}
-use Rattle.records.specs.Limits.{intervals}
 use Rattle.records.specs.Settings.{labelMeets, settingsOf}
 use Rattle.records.specs.declared.interval.Interval.{Interval}
 use Rattle.records.specs.declared.interval.IntervalRead.{IntervalRead}
@@ -17,7 +18,6 @@ use Rattle.records.specs.declared.settings.LabelSettings.{LabelSettings}
 use Rattle.records.specs.declared.settings.Settings.{Settings}
 use Rattle.records.specs.declared.settings.SettingsRead.{SettingsRead}
 use Rattle.records.proofs.IntervalRecord.{interval-read, interval-valid}
-use Rattle.records.proofs.Rules.{rule-met}
 use Rattle.records.proofs.SettingsRecord.{label-valid}
 use Rattle.rule.specs.Evaluator.{fresh, run, Possible, reachable}
 use Rattle.rule.specs.declared.Track.{Track}

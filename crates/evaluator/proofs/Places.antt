@@ -5,12 +5,12 @@ use mathlib.Core.List.{List}
 use Prim.Native.Nat.{ℕ}
 use lib.Dec.{eqb}
 use lib.ListN.{length}
+use Rattle.numbers.specs.Refusals.{refusal}
+use Rattle.numbers.specs.declared.refusal.Fault.{Fault}
+use Rattle.numbers.specs.declared.refusal.Refusal.{Refusal}
 use Rattle.records.specs.Interval.{intervalOf}
-use Rattle.records.specs.Refusals.{refusal}
 use Rattle.records.specs.Settings.{settingsOf}
 use Rattle.records.specs.declared.interval.IntervalRead.{IntervalRead}
-use Rattle.records.specs.declared.refusal.Fault.{Fault}
-use Rattle.records.specs.declared.refusal.Refusal.{Refusal}
 use Rattle.records.specs.declared.settings.SettingsRead.{SettingsRead}
 use Rattle.evaluator.specs.Evaluators.{heldOf, fedWith, answerOf, evaluatorMeets, startFrom, startOf, stepWith, stepOf, movedBy, movedOf}
 use Rattle.evaluator.specs.declared.Evaluator.{Evaluator}

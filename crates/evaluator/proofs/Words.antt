@@ -10,8 +10,8 @@ use native.Mathlib.Nat.{mod-eq-of-lt}
 use lib.Dec.{leb, ltb}
 use lib.ListN.{getD, length}
 use borrow.Author.Tests.{leb-true, ltb-true, lt-ltb}
+use Rattle.numbers.specs.Limits.{intervals, million, largestDelay}
 use Rattle.records.specs.Interval.{intervalOf}
-use Rattle.records.specs.Limits.{intervals, million, largestDelay}
 use Rattle.records.specs.Settings.{labelMeets}
 use Rattle.records.specs.declared.interval.Interval.{Interval}
 use Rattle.records.specs.declared.interval.IntervalRead.{IntervalRead}
@@ -23,8 +23,8 @@ use Rattle.evaluator.specs.declared.Held.{Held}
 use Rattle.evaluator.specs.declared.HeldRead.{HeldRead}
 use Rattle.evaluator.specs.declared.LabelRead.{LabelRead}
 use Rattle.rule.proofs.Reaching.{reached}
+use Rattle.numbers.proofs.Rules.{rule-met}
 use Rattle.records.proofs.IntervalRecord.{interval-valid}
-use Rattle.records.proofs.Rules.{rule-met}
 use Rattle.records.proofs.SettingsRecord.{LabelValid, label-valid}
 
 -- words that fit are not changed by cutting them down

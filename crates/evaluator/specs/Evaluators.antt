@@ -4,14 +4,14 @@ use mathlib.Core.List.{List, [], _∷_}
 use Prim.Native.Nat.{ℕ, _+_, _%_}
 use lib.Dec.{leb, ltb, eqb}
 use lib.ListN.{length}
+use Rattle.numbers.specs.Limits.{intervals}
+use Rattle.numbers.specs.Refusals.{refusal}
+use Rattle.numbers.specs.Rules.{allMet}
+use Rattle.numbers.specs.declared.refusal.Fault.{Fault}
 use Rattle.records.specs.Interval.{intervalOf}
-use Rattle.records.specs.Limits.{intervals}
-use Rattle.records.specs.Refusals.{refusal}
-use Rattle.records.specs.Rules.{allMet}
 use Rattle.records.specs.Settings.{labelMeets, settingsOf}
 use Rattle.records.specs.declared.interval.Interval.{Interval}
 use Rattle.records.specs.declared.interval.IntervalRead.{IntervalRead}
-use Rattle.records.specs.declared.refusal.Fault.{Fault}
 use Rattle.records.specs.declared.settings.LabelSettings.{LabelSettings}
 use Rattle.records.specs.declared.settings.SettingsRead.{SettingsRead}
 use Rattle.rule.specs.Evaluator.{fresh, gain, turn, reachable}

@@ -1,11 +1,11 @@
 // The running evaluator of a circuit, by value: a few words that the collector keeps, and the step that feeds it the next interval.
 use labels::marks;
+use numbers::limits;
+use numbers::refusal::Fault;
+use numbers::refusal::Refusal;
 use records::interval;
 use records::interval::Interval;
 use records::interval::IntervalRead;
-use records::limits;
-use records::refusal::Fault;
-use records::refusal::Refusal;
 use records::settings;
 use records::settings::LabelSettings;
 use records::settings::SettingsRead;
@@ -13,7 +13,7 @@ use rule::Track;
 ghost use mathlib.Core.Path.{_≡_};
 ghost use mathlib.Core.Bool.{true};
 ghost use Prim.Native.Nat.{_<_};
-ghost use Rattle.records.specs.Limits.{intervals};
+ghost use Rattle.numbers.specs.Limits.{intervals};
 ghost use Rattle.records.specs.Settings.{labelMeets};
 ghost use Rattle.evaluator.specs.Evaluators.{held, wordOf, which, startOf, stepOf, labelRead, fitsWords, narrowOf, heldRead, fedWith, answerOf, movedTo, movedOf};
 

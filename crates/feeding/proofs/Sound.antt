@@ -9,15 +9,15 @@ use native.Mathlib.Omega.{arith}
 use lib.ListN.{length}
 use lib.Dec.{eqb}
 use borrow.Author.Tests.{eqb-true}
+use Rattle.numbers.specs.Limits.{intervals}
+use Rattle.numbers.specs.Many.{recordAt}
+use Rattle.numbers.specs.Refusals.{refusal}
+use Rattle.numbers.specs.declared.refusal.Fault.{Fault}
+use Rattle.numbers.specs.declared.refusal.Refusal.{Refusal}
 use Rattle.records.specs.Interval.{intervalOf}
-use Rattle.records.specs.Limits.{intervals}
-use Rattle.records.specs.Many.{recordAt}
-use Rattle.records.specs.Refusals.{refusal}
 use Rattle.records.specs.Sequence.{readsFrom, intervalsIn, checked, orderedIf}
 use Rattle.records.specs.declared.interval.IntervalRead.{IntervalRead}
 use Rattle.records.specs.declared.interval.Sequence.{Sequence}
-use Rattle.records.specs.declared.refusal.Fault.{Fault}
-use Rattle.records.specs.declared.refusal.Refusal.{Refusal}
 use Rattle.records.proofs.IntervalRecord.{interval-valid}
 use Rattle.labels.specs.Stretch.{intervalsOf}
 use Rattle.tallies.proofs.Valid.{AllValid}

@@ -8,16 +8,17 @@ use native.Mathlib.Omega.{arith}
 use lib.ListN.{length, take, drop, length-append, length-take, length-drop, take-append-drop}
 use lib.Seq.{take-all, take-length, take-at, length-take-le, take-append-add}
 use borrow.Rule.Slice.PartMut.{putMid, same-len-mid}
-use Rattle.records.specs.Refusals.{refusal}
+use Rattle.numbers.specs.Refusals.{refusal}
+use Rattle.numbers.specs.declared.refusal.Refusal.{Refusal}
 use Rattle.records.specs.Sequence.{intervalsIn, checked}
 use Rattle.records.specs.declared.interval.Sequence.{Sequence}
-use Rattle.records.specs.declared.refusal.Refusal.{Refusal}
 use Rattle.labels.specs.Stretch.{intervalsOf}
 use Rattle.tracks.specs.Tracks.{join, pushAll, summary}
-use Rattle.summaries.specs.Joining.{joinedOf, Adjoining}
-use Rattle.summaries.specs.Making.{madeOf, goodIf, gathered}
-use Rattle.summaries.specs.declared.making.Gathered.{Gathered}
-use Rattle.summaries.specs.declared.stored.Summary.{Summary}
+use Rattle.summaries.specs.declared.Summary.{Summary}
+use Rattle.summaries.specs.Made.{madeOf}
+use Rattle.making.specs.Making.{goodIf, gathered}
+use Rattle.making.specs.declared.Gathered.{Gathered}
+use Rattle.joining.specs.Joining.{joinedOf, Adjoining}
 use Rattle.feeding.specs.Feeding.{Standing, standing, heldIf, behind, grown, grownBy, restOf, filled, fed, Known, Growing, Ready}
 use Rattle.feeding.specs.declared.Held.{Held}
 use Rattle.feeding.proofs.Pieces.{wholeOf, records-many, rest-short, rest-few, none-few}

@@ -11,9 +11,9 @@ use native.Mathlib.Omega.{arith}
 use lib.ListN.{length}
 use lib.Seq.{length-take-le}
 use lib.Dec.{eqb}
-use Rattle.records.specs.Limits.{intervals}
-use Rattle.records.specs.Many.{countOf, wholeIf}
-use Rattle.records.specs.Room.{hasRoom}
+use Rattle.numbers.specs.Limits.{intervals}
+use Rattle.numbers.specs.Many.{countOf, wholeIf}
+use Rattle.numbers.specs.Room.{hasRoom}
 use Rattle.records.specs.Sequence.{intervalsIn, readsFrom, checked}
 use Rattle.records.specs.Settings.{settingsOf}
 use Rattle.records.specs.declared.interval.Sequence.{Sequence}
@@ -21,12 +21,14 @@ use Rattle.records.specs.declared.settings.LabelSettings.{LabelSettings}
 use Rattle.records.specs.declared.settings.SettingsRead.{SettingsRead}
 use Rattle.labels.specs.Stretch.{intervalsOf}
 use Rattle.labels.proofs.Placing.{read-label}
-use Rattle.summaries.specs.Joining.{joinedOf, Adjoining}
-use Rattle.summaries.specs.Making.{madeOf, goodIf, gathered, gatheredCount, gatheredSettings, made}
 use Rattle.summaries.specs.Stored.{summaryBytes}
-use Rattle.summaries.specs.declared.stored.Summary.{Summary}
-use Rattle.summaries.proofs.Joins.{join-assoc, join-reads-back}
-use Rattle.summaries.proofs.Made.{join-made, made-reads-back}
+use Rattle.summaries.specs.declared.Summary.{Summary}
+use Rattle.summaries.specs.Made.{madeOf}
+use Rattle.summaries.proofs.Made.{made-reads-back}
+use Rattle.making.specs.Making.{goodIf, gathered, gatheredCount, gatheredSettings, made}
+use Rattle.joining.proofs.Cut.{join-made}
+use Rattle.joining.specs.Joining.{joinedOf, Adjoining}
+use Rattle.joining.proofs.Joins.{join-assoc, join-reads-back}
 use Rattle.tallies.proofs.Valid.{AllValid}
 use Rattle.summaries.proofs.Validity.{SummaryValid, summary-valid}
 use Rattle.feeding.specs.Feeding.{Standing, heldIf, behind, grown, grownBy, restOf, filled, begunBy, begun, fed, fedAll, finishedBy, finished, Known, Growing, Ready, joined, standing, Steps, done, next}

@@ -5,19 +5,19 @@ use mathlib.Core.Bool.{cond}
 use mathlib.Core.List.{List, [], _∷_, _++_}
 use lib.ListN.{length, take, drop}
 use lib.Dec.{eqb}
-use Rattle.records.specs.Refusals.{refusal}
+use Rattle.numbers.specs.Refusals.{refusal}
+use Rattle.numbers.specs.declared.refusal.Fault.{Fault}
 use Rattle.records.specs.Sequence.{intervalsIn, checked}
 use Rattle.records.specs.Settings.{settingsOf}
 use Rattle.records.specs.declared.interval.Sequence.{Sequence}
-use Rattle.records.specs.declared.refusal.Fault.{Fault}
 use Rattle.records.specs.declared.settings.SettingsRead.{SettingsRead}
 use Rattle.labels.specs.Stretch.{intervalsOf}
-use Rattle.summaries.specs.Joining.{joinedOf}
-use Rattle.summaries.specs.Making.{madeOf}
 use Rattle.summaries.specs.Stored.{summaryOf}
-use Rattle.summaries.specs.declared.making.Gathered.{Gathered}
-use Rattle.summaries.specs.declared.stored.Summary.{Summary}
-use Rattle.summaries.specs.declared.stored.SummaryRead.{SummaryRead}
+use Rattle.summaries.specs.declared.Summary.{Summary}
+use Rattle.summaries.specs.declared.SummaryRead.{SummaryRead}
+use Rattle.summaries.specs.Made.{madeOf}
+use Rattle.making.specs.declared.Gathered.{Gathered}
+use Rattle.joining.specs.Joining.{joinedOf}
 use Rattle.feeding.specs.declared.Held.{Held}
 use Rattle.feeding.specs.declared.State.{State}
 

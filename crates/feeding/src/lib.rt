@@ -1,19 +1,17 @@
 // Interval records fed piece by piece, in pieces of any sizes: at the end stands what the operation `summary` makes of all the bytes. Each
 // piece's whole records are made a summary of their own, which is joined to what is held; the bytes of a record that has only begun wait in a
 // lent tail of 48 bytes for the next piece.
-use records::refusal::Fault;
-use records::refusal::Refusal;
+use making::Gathered;
+use numbers::refusal::Fault;
+use numbers::refusal::Refusal;
 use records::settings;
 use records::settings::SettingsRead;
-use summaries::joining;
-use summaries::making;
-use summaries::making::Gathered;
-use summaries::stored::Summary;
+use summaries::Summary;
 use tracks::Track;
 ghost use mathlib.Core.Path.{_≡_};
 ghost use Prim.Native.Nat.{_+_, _<_, _^_};
 ghost use lib.ListN.{length};
-ghost use Rattle.records.specs.Refusals.{refusal};
+ghost use Rattle.numbers.specs.Refusals.{refusal};
 ghost use Rattle.feeding.specs.Feeding.{Known, Ready, Growing, standing, grown, grownBy, begun, fed, filled, ifWhole, finishedBy};
 
 // What the whole records so far say.

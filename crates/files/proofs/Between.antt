@@ -7,18 +7,18 @@ use lib.Dec.{eqb}
 use Prim.Native.Nat.{ℕ, _≤_}
 use native.Mathlib.Nat.{add-zero}
 use native.Mathlib.Omega.{arith}
-use Rattle.records.specs.Limits.{intervals}
-use Rattle.records.specs.Refusals.{refusal}
-use Rattle.records.specs.declared.refusal.Fault.{Fault}
+use Rattle.numbers.specs.Limits.{intervals}
+use Rattle.numbers.specs.Refusals.{refusal}
+use Rattle.numbers.specs.declared.refusal.Fault.{Fault}
 use Rattle.records.specs.declared.settings.Settings.{Settings}
 use Rattle.records.proofs.SettingsRecord.{settings-valid}
 use Rattle.tallies.proofs.Valid.{AllValid}
-use Rattle.summaries.specs.Making.{madeOf}
 use Rattle.summaries.specs.Stored.{summaryBytes}
-use Rattle.summaries.specs.declared.making.Gathered.{Gathered}
-use Rattle.summaries.specs.declared.stored.Summary.{Summary}
-use Rattle.summaries.proofs.Made.{made-reads-back}
+use Rattle.summaries.specs.declared.Summary.{Summary}
 use Rattle.summaries.proofs.Validity.{SummaryValid, summary-valid}
+use Rattle.summaries.specs.Made.{madeOf}
+use Rattle.summaries.proofs.Made.{made-reads-back}
+use Rattle.making.specs.declared.Gathered.{Gathered}
 use Rattle.periods.specs.Stretches as stretches
 use Rattle.periods.specs.Stretches.{stretchOf, heldIf, stretch-held, first-held, after-held, label-held}
 use Rattle.periods.specs.declared.StretchRead.{StretchRead}

@@ -5,17 +5,17 @@ use mathlib.Core.Path.{_≡_, ap, sym, subst}
 use mathlib.Core.List.{List, [], append-nil}
 use Prim.Native.Nat.{ℕ, _+_, _≤_}
 use lib.ListN.{length}
-use Rattle.records.specs.Limits.{intervals}
-use Rattle.records.specs.Many.{countOf}
-use Rattle.records.specs.Refusals.{refusal}
-use Rattle.records.specs.Room.{hasRoom}
+use Rattle.numbers.specs.Limits.{intervals}
+use Rattle.numbers.specs.Many.{countOf}
+use Rattle.numbers.specs.Refusals.{refusal}
+use Rattle.numbers.specs.Room.{hasRoom}
+use Rattle.numbers.specs.declared.many.Counted.{Counted}
+use Rattle.numbers.specs.declared.refusal.Fault.{Fault}
+use Rattle.numbers.specs.declared.refusal.Refusal.{Refusal}
 use Rattle.records.specs.Sequence.{intervalsIn, checked}
 use Rattle.records.specs.Settings.{settingsOf}
 use Rattle.records.specs.declared.interval.Interval.{Interval}
 use Rattle.records.specs.declared.interval.Sequence.{Sequence}
-use Rattle.records.specs.declared.many.Counted.{Counted}
-use Rattle.records.specs.declared.refusal.Fault.{Fault}
-use Rattle.records.specs.declared.refusal.Refusal.{Refusal}
 use Rattle.records.specs.declared.settings.LabelSettings.{LabelSettings}
 use Rattle.records.specs.declared.settings.Settings.{Settings}
 use Rattle.records.specs.declared.settings.SettingsRead.{SettingsRead}
@@ -24,8 +24,9 @@ use Rattle.rule.specs.Labels.{Label}
 use Rattle.labels.specs.Stretch.{intervalsOf}
 use Rattle.tallies.specs.Report.{Labelled, report}
 use Rattle.tallies.proofs.Valid.{AllValid}
-use Rattle.summaries.specs.Making.{madeOf, gathered, gatheredSettings, made}
-use Rattle.summaries.specs.declared.making.Gathered.{Gathered}
+use Rattle.summaries.specs.Made.{madeOf}
+use Rattle.making.specs.Making.{gathered, gatheredSettings, made}
+use Rattle.making.specs.declared.Gathered.{Gathered}
 use Rattle.periods.specs.Stretches.{made-held}
 use Rattle.periods.proofs.Promises.{period-defined}
 use Rattle.feeding.specs.Feeding.{finishedBy, begun, Ready, Steps, joined}

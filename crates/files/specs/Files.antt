@@ -2,14 +2,15 @@
 use Prim.Native.Nat.{ℕ}
 use mathlib.Core.Path.{_≡_}
 use mathlib.Core.List.{List, []}
-use Rattle.records.specs.Refusals.{refusal}
+use Rattle.numbers.specs.Refusals.{refusal}
+use Rattle.numbers.specs.declared.refusal.Fault.{Fault}
 use Rattle.records.specs.Settings.{settingsOf}
-use Rattle.records.specs.declared.refusal.Fault.{Fault}
 use Rattle.records.specs.declared.settings.Settings.{Settings}
 use Rattle.records.specs.declared.settings.SettingsRead.{SettingsRead}
-use Rattle.summaries.specs.Making.{madeOf, made}
-use Rattle.summaries.specs.declared.making.Gathered.{Gathered}
-use Rattle.summaries.specs.declared.stored.Summary.{Summary}
+use Rattle.summaries.specs.declared.Summary.{Summary}
+use Rattle.summaries.specs.Made.{madeOf}
+use Rattle.making.specs.Making.{made}
+use Rattle.making.specs.declared.Gathered.{Gathered}
 use Rattle.tallies.specs.declared.Period.{Period}
 use Rattle.periods.specs.Stretches.{periodOf}
 use Rattle.periods.specs.declared.Stretch.{Stretch}

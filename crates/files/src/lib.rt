@@ -1,21 +1,21 @@
 // A whole file of intervals as one period: its report and verdicts, or the refusal, of what was fed of it.
 use feeding::State;
+use making::Gathered;
+use numbers::refusal::Fault;
+use numbers::refusal::Refusal;
 use periods::Stretch;
-use records::refusal::Fault;
-use records::refusal::Refusal;
 use records::settings;
 use records::settings::LabelSettings;
 use records::settings::Settings;
 use records::settings::SettingsRead;
-use summaries::making::Gathered;
-use summaries::stored::Summary;
+use summaries::Summary;
 use tallies::Period;
 use tracks::Track;
 use verdicts::Verdicts;
 ghost use mathlib.Core.Path.{_≡_};
 ghost use mathlib.Core.List.{[]};
 ghost use Rattle.records.specs.Settings.{settingsOf};
-ghost use Rattle.summaries.specs.Making.{madeOf};
+ghost use Rattle.summaries.specs.Made.{madeOf};
 ghost use Rattle.feeding.specs.Feeding.{Known, Growing, finishedBy};
 ghost use Rattle.files.specs.Files.{stretch, aloneOf, answerOf, Judging, concludedBy};
 

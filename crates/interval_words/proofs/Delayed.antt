@@ -8,10 +8,10 @@ use borrow.Author.Tests.{le-leb, lt-leb}
 use Rattle.delays.specs.Outcome.{outcome}
 use Rattle.delays.specs.declared.Figures.{Figures}
 use Rattle.delays.specs.declared.Outcome.{Outcome}
-use Rattle.records.specs.Refusals.{refusal}
+use Rattle.numbers.specs.Refusals.{refusal}
+use Rattle.numbers.specs.declared.refusal.Fault.{Fault}
+use Rattle.numbers.specs.declared.refusal.Refusal.{Refusal}
 use Rattle.records.specs.Settings.{settingsOf}
-use Rattle.records.specs.declared.refusal.Fault.{Fault}
-use Rattle.records.specs.declared.refusal.Refusal.{Refusal}
 use Rattle.records.specs.declared.settings.Settings.{Settings}
 use Rattle.records.specs.declared.settings.SettingsRead.{SettingsRead}
 use Rattle.interval_words.specs.DelayList.{delaysOutcome, wordFor, wordsOf, Answers}

@@ -6,8 +6,8 @@ use native.Mathlib.Omega.{arith}
 use Rattle.labels.proofs.Places.{labels-place}
 use Rattle.labels.specs.Stretch.{Outcome, outcome, labelsOf}
 use Rattle.labels.specs.declared.stretch.Labelled.{Labelled}
-use Rattle.records.specs.Limits.{intervals}
-use Rattle.records.specs.declared.refusal.Refusal.{Refusal}
+use Rattle.numbers.specs.Limits.{intervals}
+use Rattle.numbers.specs.declared.refusal.Refusal.{Refusal}
 use Rattle.interval_words.specs.LabelList.{wordFor, LabelsLeft}
 
 module _ (s r out : List ℕ) (at : ℕ) where

@@ -12,16 +12,16 @@ use borrow.Author.Tests.{le-ltb, lt-ltb}
 use Rattle.measure.specs.Outcome.{Frames, sound, faulty, with, unless, framesIn, readsFrom, lengthOf, judgedOf, refuseIf, judgedFrames, judgedCount, judgedSettings, judged, answerOf, Outcome}
 use Rattle.measure.specs.declared.Answer.{Answer}
 use Rattle.measure.specs.declared.Judged.{Judged}
-use Rattle.records.specs.Limits.{frames, intervals}
-use Rattle.records.specs.Many.{countOf}
-use Rattle.records.specs.Refusals.{refusal}
-use Rattle.records.specs.Room.{hasRoom}
+use Rattle.numbers.specs.Limits.{frames, intervals}
+use Rattle.numbers.specs.Many.{countOf}
+use Rattle.numbers.specs.Refusals.{refusal}
+use Rattle.numbers.specs.Room.{hasRoom}
+use Rattle.numbers.specs.declared.many.Counted.{Counted}
+use Rattle.numbers.specs.declared.refusal.Fault.{Fault}
+use Rattle.numbers.specs.declared.refusal.Refusal.{Refusal}
 use Rattle.records.specs.Settings.{settingsOf}
 use Rattle.records.specs.declared.frame.Frame.{Frame}
 use Rattle.records.specs.declared.frame.FrameRead.{FrameRead}
-use Rattle.records.specs.declared.many.Counted.{Counted}
-use Rattle.records.specs.declared.refusal.Fault.{Fault}
-use Rattle.records.specs.declared.refusal.Refusal.{Refusal}
 use Rattle.records.specs.declared.settings.LabelSettings.{LabelSettings}
 use Rattle.records.specs.declared.settings.SettingsRead.{SettingsRead}
 use Rattle.interval_words.specs.FrameList.{wordFor, IntervalLeft}

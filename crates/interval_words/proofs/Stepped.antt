@@ -10,9 +10,9 @@ use Rattle.evaluator.specs.declared.Answer.{Answer}
 use Rattle.evaluator.specs.declared.Evaluator.{Evaluator}
 use Rattle.evaluator.specs.declared.Started.{Started}
 use Rattle.evaluator.specs.declared.Stepped.{Stepped}
-use Rattle.records.specs.Refusals.{refusal}
-use Rattle.records.specs.declared.refusal.Fault.{Fault}
-use Rattle.records.specs.declared.refusal.Refusal.{Refusal}
+use Rattle.numbers.specs.Refusals.{refusal}
+use Rattle.numbers.specs.declared.refusal.Fault.{Fault}
+use Rattle.numbers.specs.declared.refusal.Refusal.{Refusal}
 use Rattle.interval_words.specs.Running.{settingWords, stateWords, evaluatorWords, settledWords, evaluatorIn, startTold, StartLeft, stepTold, stepWord, evaluatorLeft, settledLeft, StepLeft}
 use Rattle.words.specs.Written.{over, written}
 use Rattle.words.specs.Word.{wordOf}

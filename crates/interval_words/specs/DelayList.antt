@@ -8,9 +8,9 @@ use lib.Dec.{leb}
 use Rattle.delays.specs.Outcome.{judged, pick}
 use Rattle.delays.specs.declared.Figures.{Figures}
 use Rattle.delays.specs.declared.Outcome.{Outcome}
-use Rattle.records.specs.Refusals.{refusal}
+use Rattle.numbers.specs.Refusals.{refusal}
+use Rattle.numbers.specs.declared.refusal.Fault.{Fault}
 use Rattle.records.specs.Settings.{settingsOf}
-use Rattle.records.specs.declared.refusal.Fault.{Fault}
 use Rattle.records.specs.declared.settings.SettingsRead.{SettingsRead}
 use Rattle.words.specs.Word.{wordOf}
 

@@ -10,8 +10,8 @@ use Rattle.evaluator.specs.declared.Answer.{Answer}
 use Rattle.evaluator.specs.declared.Evaluator.{Evaluator}
 use Rattle.evaluator.specs.declared.Started.{Started}
 use Rattle.evaluator.specs.declared.Stepped.{Stepped}
-use Rattle.records.specs.Refusals.{refusal}
-use Rattle.records.specs.declared.refusal.Fault.{Fault}
+use Rattle.numbers.specs.Refusals.{refusal}
+use Rattle.numbers.specs.declared.refusal.Fault.{Fault}
 use Rattle.words.specs.Word.{wordOf}
 use Rattle.words.specs.Written.{over}
 

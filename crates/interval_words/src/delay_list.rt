@@ -1,8 +1,8 @@
 // Percentile delay and range of a list of delays.
 use delays::Figures;
 use delays::Outcome;
-use records::refusal::Fault;
-use records::refusal::Refusal;
+use numbers::refusal::Fault;
+use numbers::refusal::Refusal;
 use records::settings;
 use records::settings::SettingsRead;
 use words::word;

@@ -8,17 +8,17 @@ use borrow.Rule.Slice.PartMut.{putMid}
 use lib.Dec.{ltb, eqb}
 use lib.ListN.{length, length-map}
 use lib.Seq.{drop-drop}
-use Rattle.records.specs.Bytes.{placed}
-use Rattle.records.specs.Many.{countOf, wholeIf}
+use Rattle.numbers.specs.Bytes.{placed}
+use Rattle.numbers.specs.Many.{countOf, wholeIf}
+use Rattle.numbers.specs.declared.many.Counted.{Counted}
+use Rattle.numbers.proofs.Rules.{rule-met}
 use Rattle.records.specs.Sequence.{intervalsIn, checked}
 use Rattle.records.specs.Settings.{labelMeets, settingsRules, objectivesIn, settingsOf}
 use Rattle.records.specs.declared.interval.Interval.{Interval}
 use Rattle.records.specs.declared.interval.Sequence.{Sequence}
-use Rattle.records.specs.declared.many.Counted.{Counted}
 use Rattle.records.specs.declared.settings.LabelSettings.{LabelSettings}
 use Rattle.records.specs.declared.settings.Settings.{Settings}
 use Rattle.records.specs.declared.settings.SettingsRead.{SettingsRead}
-use Rattle.records.proofs.Rules.{rule-met}
 use Rattle.records.proofs.SettingsRecord.{settings-read}
 use Rattle.rule.specs.Labels.{Label}
 use Rattle.rule.proofs.Labelling.{labels-length}

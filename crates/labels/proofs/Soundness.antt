@@ -7,8 +7,8 @@ use native.Mathlib.Omega.{arith}
 use native.Mathlib.Nat.{add-zero, add-suc, suc-add, zero-add}
 use lib.Dec.{eqb}
 use lib.ListN.{length, getD, length-map}
+use Rattle.numbers.specs.Many.{recordAt}
 use Rattle.records.specs.Interval.{intervalOf}
-use Rattle.records.specs.Many.{recordAt}
 use Rattle.records.specs.Sequence.{readsFrom, intervalsIn, checked, orderedIf}
 use Rattle.records.specs.declared.interval.Interval.{Interval}
 use Rattle.records.specs.declared.interval.IntervalRead.{IntervalRead}

@@ -7,8 +7,8 @@ use native.Mathlib.Omega.{arith}
 use native.Mathlib.Numerals.{add-one}
 use lib.ListN.{length, getD, take, length-map, List·getD-map}
 use lib.Seq.{take-suc, take-all, length-take-le}
+use Rattle.numbers.specs.Many.{recordAt}
 use Rattle.records.specs.Interval.{intervalOf, intervalIn}
-use Rattle.records.specs.Many.{recordAt}
 use Rattle.records.specs.Sequence.{intervalsIn, checked}
 use Rattle.records.specs.declared.interval.Interval.{Interval}
 use Rattle.records.specs.declared.interval.IntervalRead.{IntervalRead}

@@ -2,8 +2,8 @@
 use mathlib.Core.Bool.{Bool}
 use mathlib.Core.List.{List}
 use Prim.Native.Nat.{ℕ}
-use Rattle.records.specs.Bytes.{numberAt}
-use Rattle.records.specs.Limits.{million}
+use Rattle.numbers.specs.Bytes.{numberAt}
+use Rattle.numbers.specs.Limits.{million}
 use Rattle.records.specs.declared.interval.Interval.{Interval}
 use Rattle.records.specs.declared.settings.LabelSettings.{LabelSettings}
 use Rattle.rule.specs.declared.Counts.{Counts}

@@ -4,17 +4,17 @@ use mathlib.Core.Bool.{Bool, true, false, cond}
 use mathlib.Core.List.{List, [], _∷_, map}
 use Prim.Native.Nat.{ℕ, zero, suc, _+_, _*_, _-_, _/_, _≤_, _<_}
 use lib.ListN.{length, set}
-use Rattle.records.specs.Bytes.{placed}
-use Rattle.records.specs.Many.{countOf}
-use Rattle.records.specs.Refusals.{refusal}
-use Rattle.records.specs.Room.{hasRoom}
+use Rattle.numbers.specs.Bytes.{placed}
+use Rattle.numbers.specs.Many.{countOf}
+use Rattle.numbers.specs.Refusals.{refusal}
+use Rattle.numbers.specs.Room.{hasRoom}
+use Rattle.numbers.specs.declared.many.Counted.{Counted}
+use Rattle.numbers.specs.declared.refusal.Fault.{Fault}
 use Rattle.records.specs.Sequence.{intervalsIn, checked}
 use Rattle.records.specs.Settings.{labelMeets, settingsOf}
 use Rattle.records.specs.declared.interval.Interval.{Interval}
 use Rattle.records.specs.declared.interval.IntervalRead.{IntervalRead}
 use Rattle.records.specs.declared.interval.Sequence.{Sequence}
-use Rattle.records.specs.declared.many.Counted.{Counted}
-use Rattle.records.specs.declared.refusal.Fault.{Fault}
 use Rattle.records.specs.declared.settings.LabelSettings.{LabelSettings}
 use Rattle.records.specs.declared.settings.SettingsRead.{SettingsRead}
 use Rattle.rule.specs.Evaluator.{gain, turn, labelling}

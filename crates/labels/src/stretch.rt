@@ -1,13 +1,13 @@
 // The label bytes of a stretch from interval 0. Nothing is written before every record is known to be good. Each label is written
 // once, when it is settled, or as undecided at the end: the work grows with the number of intervals alone.
 use crate::marks;
+use numbers::many;
+use numbers::many::Counted;
+use numbers::refusal::Fault;
+use numbers::refusal::Refusal;
+use numbers::room;
 use records::interval;
 use records::interval::Sequence;
-use records::many;
-use records::many::Counted;
-use records::refusal::Fault;
-use records::refusal::Refusal;
-use records::room;
 use records::settings;
 use records::settings::LabelSettings;
 use records::settings::SettingsRead;

@@ -5,7 +5,7 @@ use mathlib.Core.List.{List, [], _∷_, _++_}
 use Prim.Native.Nat.{ℕ, _+_}
 use lib.ListN.{length}
 use lib.Seq.{sets}
-use Rattle.records.proofs.Numbers.{sets-append}
+use Rattle.numbers.proofs.Numbers.{sets-append}
 
 pub record Piece : Type 0 where
   pub size : ℕ

@@ -9,8 +9,8 @@ use native.Mathlib.Omega.{arith}
 use lib.ListN.{length, length-append}
 use lib.Dec.{leb, eqb}
 use borrow.Author.Tests.{le-leb}
-use Rattle.records.specs.Bytes.{numberAt, part, bytesOf, areZero}
-use Rattle.records.proofs.Numbers.{number-of-bytes, length-bytes}
+use Rattle.numbers.specs.Bytes.{numberAt, part, bytesOf, areZero}
+use Rattle.numbers.proofs.Numbers.{number-of-bytes, length-bytes}
 use Rattle.runs.specs.Figures.{idle, none}
 use Rattle.runs.specs.Middles.{unit}
 use Rattle.runs.specs.declared.figures.Load.{Load}

@@ -9,7 +9,7 @@ use native.Mathlib.Omega.{arith}
 use lib.ListN.{length, getD}
 use lib.Seq.{getD-append-add}
 use lib.Dec.{eqb}
-use Rattle.records.specs.Bytes.{number, numberAt, part, areZero}
+use Rattle.numbers.specs.Bytes.{number, numberAt, part, areZero}
 use Rattle.layout.specs.Reading.{loadIn, figuresIn, runIn, middleIn, trackBy, trackIn, runWords, wordsBy, wordsMeet}
 
 module _ (pre s : List ℕ) where

@@ -9,8 +9,8 @@ use native.Mathlib.Nat.{add-assoc}
 use native.Mathlib.Omega.{arith}
 use lib.Dec.{leb, eqb}
 use borrow.Author.Tests.{leb-true, eqb-true}
-use Rattle.records.specs.Bytes.{numberAt, part, bytesOf, areZero, Bytes}
-use Rattle.records.proofs.Numbers.{part-append}
+use Rattle.numbers.specs.Bytes.{numberAt, part, bytesOf, areZero, Bytes}
+use Rattle.numbers.proofs.Numbers.{part-append}
 use Rattle.records.proofs.RoundTrip.{part-bytes, zero-bytes}
 use Rattle.runs.specs.Figures.{idle, none}
 use Rattle.runs.specs.Middles.{unit}

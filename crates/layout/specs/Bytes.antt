@@ -2,7 +2,7 @@
 use Prim.Native.Nat.{ℕ}
 use mathlib.Core.Bool.{Bool, false, cond}
 use mathlib.Core.List.{List, _++_}
-use Rattle.records.specs.Bytes.{bytesOf}
+use Rattle.numbers.specs.Bytes.{bytesOf}
 use Rattle.runs.specs.Figures.{idle}
 use Rattle.runs.specs.Middles.{unit}
 use Rattle.runs.specs.declared.figures.Load.{Load}

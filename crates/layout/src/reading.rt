@@ -1,5 +1,5 @@
 // A track read out of bytes: its values, and whether its words are ones that a writer makes.
-use records::known;
+use numbers::known;
 use runs::figures::Figures;
 use runs::figures::Load;
 use runs::middles::Label;

@@ -1,5 +1,5 @@
 // A track put into bytes.
-use records::known;
+use numbers::known;
 use runs::figures;
 use runs::figures::Figures;
 use runs::figures::Load;

@@ -7,13 +7,13 @@ use Prim.Native.Nat.{ℕ, suc, _+_, _-_, _≤_, _<_}
 use native.Mathlib.Omega.{arith}
 use lib.Dec.{ltb}
 use borrow.Author.Tests.{lt-ltb, le-ltb, le-leb, lt-leb}
+use Rattle.numbers.specs.Limits.{largestDelay}
+use Rattle.numbers.specs.Many.{recordAt}
+use Rattle.numbers.specs.Refusals.{refusal}
+use Rattle.numbers.specs.declared.refusal.Fault.{Fault}
 use Rattle.records.specs.Frame.{frameOf}
-use Rattle.records.specs.Limits.{largestDelay}
-use Rattle.records.specs.Many.{recordAt}
-use Rattle.records.specs.Refusals.{refusal}
 use Rattle.records.specs.declared.frame.Frame.{Frame}
 use Rattle.records.specs.declared.frame.FrameRead.{FrameRead}
-use Rattle.records.specs.declared.refusal.Fault.{Fault}
 use Rattle.measure.specs.Measured.{apart}
 use Rattle.measure.specs.Outcome.{Frames, sound, faulty, with, framesIn, readsFrom}
 use Rattle.measure.specs.Running.{nothing, added, addedAll, takenOf, Small}

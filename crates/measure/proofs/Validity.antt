@@ -11,18 +11,18 @@ use native.Mathlib.Omega.{arith}
 use lib.ListN.{length}
 use lib.Dec.{leb, ltb, eqb}
 use borrow.Author.Tests.{lt-ltb, le-ltb, le-leb, leb-false, ltb-false, eq-eqb, ne-eqb}
-use Rattle.records.specs.Limits.{intervals, frames, largestDelay}
+use Rattle.numbers.specs.Limits.{intervals, frames, largestDelay}
+use Rattle.numbers.specs.Many.{countOf, recordAt}
+use Rattle.numbers.specs.Room.{hasRoom}
+use Rattle.numbers.specs.declared.many.Counted.{Counted}
+use Rattle.numbers.specs.declared.refusal.Fault.{Fault}
+use Rattle.numbers.specs.declared.refusal.Refusal.{Refusal}
 use Rattle.records.specs.Frame.{frameOf}
-use Rattle.records.specs.Many.{countOf, recordAt}
-use Rattle.records.specs.Room.{hasRoom}
 use Rattle.records.specs.Settings.{settingsOf}
 use Rattle.records.specs.Interval.{intervalOf, intervalBytes, countRules, countsMeet, noDelayRules, delayRules, delaysMeet}
 use Rattle.records.specs.declared.frame.Frame.{Frame}
 use Rattle.records.specs.declared.frame.FrameRead.{FrameRead}
 use Rattle.records.specs.declared.interval.Interval.{Interval}
-use Rattle.records.specs.declared.many.Counted.{Counted}
-use Rattle.records.specs.declared.refusal.Fault.{Fault}
-use Rattle.records.specs.declared.refusal.Refusal.{Refusal}
 use Rattle.records.specs.declared.settings.Settings.{Settings}
 use Rattle.records.specs.declared.settings.SettingsRead.{SettingsRead}
 use Rattle.measure.specs.declared.Judged.{Judged}

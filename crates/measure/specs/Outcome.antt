@@ -5,19 +5,19 @@ use mathlib.Core.Bool.{Bool, true, false, _&&_}
 use mathlib.Core.List.{List, [], _∷_}
 use lib.ListN.{length}
 use lib.Dec.{leb, ltb, eqb}
-use Rattle.records.specs.Bytes.{placed}
+use Rattle.numbers.specs.Bytes.{placed}
+use Rattle.numbers.specs.Limits.{intervals, frames}
+use Rattle.numbers.specs.Many.{countOf, recordAt}
+use Rattle.numbers.specs.Refusals.{refusal}
+use Rattle.numbers.specs.Room.{hasRoom}
+use Rattle.numbers.specs.declared.many.Counted.{Counted}
+use Rattle.numbers.specs.declared.refusal.Fault.{Fault}
+use Rattle.numbers.specs.declared.refusal.Refusal.{Refusal}
 use Rattle.records.specs.Frame.{frameOf}
 use Rattle.records.specs.Interval.{intervalBytes}
-use Rattle.records.specs.Limits.{intervals, frames}
-use Rattle.records.specs.Many.{countOf, recordAt}
-use Rattle.records.specs.Refusals.{refusal}
-use Rattle.records.specs.Room.{hasRoom}
 use Rattle.records.specs.Settings.{settingsOf}
 use Rattle.records.specs.declared.frame.Frame.{Frame}
 use Rattle.records.specs.declared.frame.FrameRead.{FrameRead}
-use Rattle.records.specs.declared.many.Counted.{Counted}
-use Rattle.records.specs.declared.refusal.Fault.{Fault}
-use Rattle.records.specs.declared.refusal.Refusal.{Refusal}
 use Rattle.records.specs.declared.settings.LabelSettings.{LabelSettings}
 use Rattle.records.specs.declared.settings.SettingsRead.{SettingsRead}
 use Rattle.measure.specs.Measured.{measured}

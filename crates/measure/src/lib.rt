@@ -1,15 +1,15 @@
 // From frames to one interval.
+use numbers::limits;
+use numbers::many;
+use numbers::many::Counted;
+use numbers::refusal::Fault;
+use numbers::refusal::Refusal;
+use numbers::room;
 use records::frame;
 use records::frame::Frame;
 use records::frame::FrameRead;
 use records::interval;
 use records::interval::Interval;
-use records::limits;
-use records::many;
-use records::many::Counted;
-use records::refusal::Fault;
-use records::refusal::Refusal;
-use records::room;
 use records::settings;
 use records::settings::LabelSettings;
 use records::settings::SettingsRead;
@@ -19,8 +19,8 @@ ghost use mathlib.Core.Bool.{cond};
 ghost use Rattle.measure.specs.Measured.{apart};
 ghost use Rattle.measure.specs.Running.{added, finished, nothing, takenOf, Small};
 ghost use Rattle.measure.specs.Outcome.{framesIn, readsFrom, judgedFrames, Outcome};
-ghost use Rattle.records.specs.Limits.{frames};
-ghost use Rattle.records.specs.Refusals.{refusal};
+ghost use Rattle.numbers.specs.Limits.{frames};
+ghost use Rattle.numbers.specs.Refusals.{refusal};
 
 // What the frames taken so far give, and what the next one needs of the last.
 pub struct Tally {

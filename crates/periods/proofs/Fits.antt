@@ -5,7 +5,7 @@ use mathlib.Core.Path.{_≡_, refl, ap, sym, _∙_, subst}
 use mathlib.Core.List.{List}
 use Prim.Native.Nat.{ℕ, _+_, _-_, _<_, _≤_}
 use native.Mathlib.Omega.{arith}
-use Rattle.records.specs.Limits.{intervals}
+use Rattle.numbers.specs.Limits.{intervals}
 use Rattle.records.specs.declared.settings.LabelSettings.{LabelSettings}
 use Rattle.tracks.specs.declared.Track.{Track}
 use Rattle.tracks.specs.Tracks.{join, quiet, countIn}
@@ -13,7 +13,7 @@ use Rattle.tracks.specs.Valid.{TrackValid, JoinFits, TrackFits}
 use Rattle.tracks.proofs.Keeping.{join-valid, quiet-valid}
 use Rattle.tracks.proofs.Serving.{count-valid}
 use Rattle.summaries.specs.Stored.{summaryOf}
-use Rattle.summaries.specs.declared.stored.SummaryRead.{SummaryRead}
+use Rattle.summaries.specs.declared.SummaryRead.{SummaryRead}
 use Rattle.summaries.proofs.Validity.{SummaryValid, summary-valid}
 use Rattle.periods.specs.Between.{BetweenFits}
 use Rattle.periods.specs.Stretches.{heldIf, stretchOf, Known, stretch-held, first-held, after-held, label-held}

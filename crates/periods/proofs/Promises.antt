@@ -8,7 +8,7 @@ use mathlib.Core.List.{List, [], _∷_, _++_, map, map-append}
 use Prim.Native.Nat.{ℕ, suc, _+_, _-_, _≤_}
 use native.Mathlib.Omega.{arith}
 use lib.ListN.{length, length-map}
-use Rattle.records.specs.Limits.{intervals}
+use Rattle.numbers.specs.Limits.{intervals}
 use Rattle.records.specs.Settings.{labelMeets}
 use Rattle.records.specs.declared.interval.Interval.{Interval}
 use Rattle.records.specs.declared.settings.LabelSettings.{LabelSettings}
@@ -27,7 +27,7 @@ use Rattle.tracks.specs.Valid.{TrackValid}
 use Rattle.tracks.proofs.Bounding.{whole-bounded, whole-count}
 use Rattle.tracks.proofs.Reading.{period-tally}
 use Rattle.tracks.proofs.Serving.{count-join, count-summary, count-valid, count-none}
-use Rattle.summaries.specs.Making.{madeOf}
+use Rattle.summaries.specs.Made.{madeOf}
 use Rattle.summaries.proofs.Made.{made-reads-back}
 use Rattle.periods.specs.Between.{between, BetweenFits}
 use Rattle.periods.specs.Stretches.{heldIf, stretchOf, firstOf, afterOf, labelOf, madeStretch, madeBytes, countsOf, periodOf, Known, stretch-held, first-held, after-held, label-held, made-held, bytes-held, period-held}

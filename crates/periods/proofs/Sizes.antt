@@ -6,8 +6,8 @@ use Prim.Native.Nat.{ℕ}
 use lib.ListN.{length}
 use Rattle.records.specs.declared.interval.Interval.{Interval}
 use Rattle.records.specs.declared.settings.LabelSettings.{LabelSettings}
-use Rattle.summaries.specs.Making.{madeOf}
 use Rattle.summaries.proofs.Placing.{size-summary}
+use Rattle.summaries.specs.Made.{madeOf}
 use Rattle.periods.specs.Stretches.{madeBytes, bytes-held}
 
 pub size-made : (l : LabelSettings) (first : ℕ) (vs : List Interval) → length (madeBytes l first vs) ≡ 1024

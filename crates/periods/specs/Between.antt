@@ -1,6 +1,6 @@
 -- The middle one of three tracks: those at its sides count nothing, and give the labels all the same.
 use Prim.Native.Nat.{ℕ, _+_, _≤_}
-use Rattle.records.specs.Limits.{intervals}
+use Rattle.numbers.specs.Limits.{intervals}
 use Rattle.tallies.specs.declared.Tally.{Tally}
 use Rattle.tracks.specs.declared.Track.{Track}
 use Rattle.tracks.specs.Tracks.{join, quiet, whole}

@@ -9,8 +9,8 @@ use Rattle.tallies.specs.declared.Counts.{Counts}
 use Rattle.tallies.specs.declared.Tally.{Tally}
 use Rattle.tracks.specs.Tracks.{countIn}
 use Rattle.summaries.specs.Stored.{summaryOf, summaryBytes}
-use Rattle.summaries.specs.Making.{madeOf}
-use Rattle.summaries.specs.declared.stored.SummaryRead.{SummaryRead}
+use Rattle.summaries.specs.declared.SummaryRead.{SummaryRead}
+use Rattle.summaries.specs.Made.{madeOf}
 use Rattle.periods.specs.Between.{between}
 use Rattle.periods.specs.declared.Stretch.{Stretch}
 use Rattle.periods.specs.declared.StretchRead.{StretchRead}

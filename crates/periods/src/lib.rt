@@ -1,8 +1,7 @@
 // What stands above the summaries sees of them: a valid one, its numbers and its label settings, and the report of the middle of three.
 use records::settings::LabelSettings;
-use summaries::stored;
-use summaries::stored::Summary;
-use summaries::stored::SummaryRead;
+use summaries::Summary;
+use summaries::SummaryRead;
 use tallies::Counts;
 use tallies::Period;
 use tallies::Tally;
@@ -25,7 +24,7 @@ pub enum StretchRead {
 pub fn read(s: &[u8]) -> StretchRead
     ensures { λ r. ⌜ r ≡ stretchOf (now (s .entry)) ⌝ }
 {
-    match stored::read(s) {
+    match summaries::read(s) {
         SummaryRead::Valid(v) => StretchRead::Valid(Stretch { held: v }),
         SummaryRead::Invalid => StretchRead::Invalid,
     }

@@ -1,7 +1,7 @@
 // What programs print that run the edges.
 use libc::STDOUT_FILENO;
-use records::refusal;
-use records::refusal::Refusal;
+use numbers::refusal;
+use numbers::refusal::Refusal;
 
 pub fn text(s: &[u8]) {
     io::write_all(STDOUT_FILENO, s);

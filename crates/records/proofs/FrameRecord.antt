@@ -7,12 +7,12 @@ use Prim.Native.Nat.{ℕ, _≤_}
 use native.Mathlib.Omega.{arith}
 use lib.Dec.{eqb}
 use borrow.Author.Tests.{leb-true, eqb-true}
+use Rattle.numbers.specs.Limits.{largestDelay}
+use Rattle.numbers.specs.Rules.{allMet}
+use Rattle.numbers.proofs.Rules.{rule-met}
 use Rattle.records.specs.Frame.{frameIn, frameRules, frameOf, validIf}
-use Rattle.records.specs.Limits.{largestDelay}
-use Rattle.records.specs.Rules.{allMet}
 use Rattle.records.specs.declared.frame.Frame.{Frame}
 use Rattle.records.specs.declared.frame.FrameRead.{FrameRead}
-use Rattle.records.proofs.Rules.{rule-met}
 
 pub record FrameValid (f : Frame) : Type 0 where
   pub delay-fact : f .delay ≤ largestDelay

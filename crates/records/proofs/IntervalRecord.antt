@@ -11,9 +11,9 @@ use lib.ListN.{length}
 use lib.Seq.{sets}
 use lib.Dec.{ltb, eqb}
 use borrow.Author.Tests.{leb-true, ltb-true, eqb-true, eqb-false}
-use Rattle.records.specs.Bytes.{number, bytesOf}
-use Rattle.records.specs.Limits.{intervals, frames, largestDelay}
-use Rattle.records.specs.Rules.{allMet}
+use Rattle.numbers.specs.Bytes.{number, bytesOf}
+use Rattle.numbers.specs.Limits.{intervals, frames, largestDelay}
+use Rattle.numbers.specs.Rules.{allMet}
 use Rattle.records.specs.Interval.{
   intervalIn,
   deliveredIn,
@@ -29,9 +29,9 @@ use Rattle.records.specs.Interval.{
   intervalBytes,
   validIf,
 }
+use Rattle.numbers.proofs.Rules.{rule-met}
 use Rattle.records.specs.declared.interval.Interval.{Interval}
 use Rattle.records.specs.declared.interval.IntervalRead.{IntervalRead}
-use Rattle.records.proofs.Rules.{rule-met}
 
 -- the facts of a valid interval; those on delays hold with nothing delivered too
 pub record IntervalValid (v : Interval) : Type 0 where

@@ -12,17 +12,17 @@ use native.Mathlib.Omega.{arith}
 use lib.ListN.{length, getD}
 use lib.Dec.{leb, eqb}
 use borrow.Author.Tests.{leb-true, eqb-true, eqb-false, eq-eqb}
-use Rattle.records.specs.Bytes.{number, numberAt, part, bytesOf, areZero, Bytes}
-use Rattle.records.specs.Limits.{frames, largestDelay}
+use Rattle.numbers.specs.Bytes.{number, numberAt, part, bytesOf, areZero, Bytes}
+use Rattle.numbers.specs.Limits.{frames, largestDelay}
+use Rattle.numbers.proofs.Rules.{rule-met}
+use Rattle.numbers.proofs.Bounds.{intervals-fit, frames-fit, largest-delay-fits, million-fits, interval-sum-fits}
+use Rattle.numbers.proofs.Numbers.{number-of-bytes, bytes-of-number, length-part, part-is-bytes, part-append, part-whole}
 use Rattle.records.specs.Interval.{intervalIn, deliveredIn, countsMeet, delaysMeet, intervalRules, intervalOf, countBytes, delayBytes, intervalBytes}
 use Rattle.records.specs.Settings.{labelIn, labelMeets, shapeBytes, thresholdBytes, labelBytes}
 use Rattle.records.specs.declared.interval.Interval.{Interval}
 use Rattle.records.specs.declared.interval.IntervalRead.{IntervalRead}
 use Rattle.records.specs.declared.settings.LabelSettings.{LabelSettings}
 use Rattle.records.proofs.SettingsRecord.{label-valid}
-use Rattle.records.proofs.Rules.{rule-met}
-use Rattle.records.proofs.Bounds.{intervals-fit, frames-fit, largest-delay-fits, million-fits, interval-sum-fits}
-use Rattle.records.proofs.Numbers.{number-of-bytes, bytes-of-number, length-part, part-is-bytes, part-append, part-whole}
 use Rattle.records.proofs.IntervalRecord.{IntervalValid, interval-facts, interval-read, length-interval}
 
 -- the sum of an interval that meets the rules fits its field

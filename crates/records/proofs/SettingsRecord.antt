@@ -10,13 +10,13 @@ use native.Mathlib.Omega.{arith}
 use lib.ListN.{length, getD}
 use lib.Dec.{leb, ltb, eqb}
 use borrow.Author.Tests.{leb-true, eqb-true, eq-eqb}
-use Rattle.records.specs.Limits.{largestDelay, million}
-use Rattle.records.specs.Rules.{allMet}
+use Rattle.numbers.specs.Limits.{largestDelay, million}
+use Rattle.numbers.specs.Rules.{allMet}
+use Rattle.numbers.proofs.Rules.{rule-met, within-facts, below-facts}
 use Rattle.records.specs.Settings.{labelIn, labelRules, labelMeets, objectivesIn, objectiveRules, objectivesMeet, settingsRules, settingsOf, sameFields, sameLabel, validIf}
 use Rattle.records.specs.declared.settings.LabelSettings.{LabelSettings}
 use Rattle.records.specs.declared.settings.Settings.{Settings}
 use Rattle.records.specs.declared.settings.SettingsRead.{SettingsRead}
-use Rattle.records.proofs.Rules.{rule-met, within-facts, below-facts}
 
 pub record LabelValid (l : LabelSettings) : Type 0 where
   pub length-facts : (100 ≤ l .length) × (l .length ≤ 60000)

@@ -4,9 +4,9 @@ use mathlib.Core.Bool.{Bool, true, false, _||_, not}
 use mathlib.Core.List.{List, [], _∷_}
 use lib.ListN.{length, getD}
 use lib.Dec.{leb, eqb}
-use Rattle.records.specs.Bytes.{numberAt, areZero}
-use Rattle.records.specs.Limits.{largestDelay}
-use Rattle.records.specs.Rules.{allMet}
+use Rattle.numbers.specs.Bytes.{numberAt, areZero}
+use Rattle.numbers.specs.Limits.{largestDelay}
+use Rattle.numbers.specs.Rules.{allMet}
 use Rattle.records.specs.declared.frame.Frame.{Frame}
 use Rattle.records.specs.declared.frame.FrameRead.{FrameRead}
 

@@ -4,9 +4,9 @@ use mathlib.Core.Bool.{Bool, true, false, _&&_, _||_, cond}
 use mathlib.Core.List.{List, [], _∷_, _++_}
 use lib.ListN.{length, getD}
 use lib.Dec.{leb, ltb, eqb}
-use Rattle.records.specs.Bytes.{numberAt, areZero, bytesOf}
-use Rattle.records.specs.Limits.{intervals, frames, largestDelay}
-use Rattle.records.specs.Rules.{allMet}
+use Rattle.numbers.specs.Bytes.{numberAt, areZero, bytesOf}
+use Rattle.numbers.specs.Limits.{intervals, frames, largestDelay}
+use Rattle.numbers.specs.Rules.{allMet}
 use Rattle.records.specs.declared.interval.Interval.{Interval}
 use Rattle.records.specs.declared.interval.IntervalRead.{IntervalRead}
 

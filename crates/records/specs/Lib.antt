@@ -1,10 +1,4 @@
-pub mod Bytes
 pub mod Frame
 pub mod Interval
-pub mod Limits
-pub mod Many
-pub mod Refusals
-pub mod Room
-pub mod Rules
 pub mod Sequence
 pub mod Settings

@@ -4,12 +4,12 @@ use mathlib.Core.Bool.{Bool, true, false}
 use mathlib.Core.List.{List, [], _∷_}
 use lib.ListN.{length}
 use lib.Dec.{eqb}
+use Rattle.numbers.specs.Many.{recordAt}
+use Rattle.numbers.specs.Refusals.{refusal}
+use Rattle.numbers.specs.declared.refusal.Fault.{Fault}
 use Rattle.records.specs.Interval.{intervalOf}
-use Rattle.records.specs.Many.{recordAt}
-use Rattle.records.specs.Refusals.{refusal}
 use Rattle.records.specs.declared.interval.IntervalRead.{IntervalRead}
 use Rattle.records.specs.declared.interval.Sequence.{Sequence}
-use Rattle.records.specs.declared.refusal.Fault.{Fault}
 
 -- what each of `n` records says, from the k-th on
 unfoldable pub readsFrom : ℕ → List ℕ → ℕ → List IntervalRead

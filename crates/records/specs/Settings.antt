@@ -4,9 +4,9 @@ use mathlib.Core.Bool.{Bool, true, false, _&&_, _||_, not}
 use mathlib.Core.List.{List, [], _∷_, _++_}
 use lib.ListN.{length, getD}
 use lib.Dec.{leb, ltb, eqb}
-use Rattle.records.specs.Bytes.{numberAt, bytesOf}
-use Rattle.records.specs.Limits.{largestDelay, million}
-use Rattle.records.specs.Rules.{allMet, within}
+use Rattle.numbers.specs.Bytes.{numberAt, bytesOf}
+use Rattle.numbers.specs.Limits.{largestDelay, million}
+use Rattle.numbers.specs.Rules.{allMet, within}
 use Rattle.records.specs.declared.settings.LabelSettings.{LabelSettings}
 use Rattle.records.specs.declared.settings.Settings.{Settings}
 use Rattle.records.specs.declared.settings.SettingsRead.{SettingsRead}

@@ -1,6 +1,6 @@
 // The frame record, 16 bytes.
-use crate::known;
-use crate::limits;
+use numbers::known;
+use numbers::limits;
 ghost use mathlib.Core.Path.{_≡_};
 ghost use lib.ListN.{length};
 ghost use Rattle.records.specs.Frame.{frameIn, frameOf};

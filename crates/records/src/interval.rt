@@ -1,18 +1,18 @@
 // The interval record, 48 bytes: its values, its rules, read and written; and a slice of many of them.
-use crate::bytes;
-use crate::known;
-use crate::limits;
-use crate::many;
-use crate::refusal::Fault;
-use crate::refusal::Refusal;
-use crate::room;
+use numbers::bytes;
+use numbers::known;
+use numbers::limits;
+use numbers::many;
+use numbers::refusal::Fault;
+use numbers::refusal::Refusal;
+use numbers::room;
 ghost use mathlib.Core.Path.{_≡_};
 ghost use Prim.Native.Nat.{_-_, _*_};
 ghost use mathlib.Core.Bool.{cond};
 ghost use lib.ListN.{length};
 ghost use lib.Seq.{sets};
-ghost use Rattle.records.specs.Many.{recordAt};
-ghost use Rattle.records.specs.Room.{Written};
+ghost use Rattle.numbers.specs.Many.{recordAt};
+ghost use Rattle.numbers.specs.Room.{Written};
 ghost use Rattle.records.specs.Sequence.{intervalsIn, checked};
 ghost use Rattle.records.specs.Interval.{intervalIn, intervalOf, countBytes, delayBytes, intervalBytes, countsMeet, delaysMeet};
 

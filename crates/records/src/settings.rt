@@ -1,6 +1,6 @@
 // The settings record, 64 bytes: its values, its rules, and the label settings, which are its first 24 bytes.
-use crate::bytes;
-use crate::limits;
+use numbers::bytes;
+use numbers::limits;
 ghost use mathlib.Core.Path.{_≡_};
 ghost use lib.Seq.{sets};
 ghost use Rattle.records.specs.Settings.{labelIn, labelMeets, objectivesIn, objectivesMeet, settingsOf, sameLabel, shapeBytes, thresholdBytes, labelBytes};

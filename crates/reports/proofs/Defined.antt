@@ -1,40 +1,31 @@
--- Reports and verdicts on summaries that are made of intervals are the definition's: each summary is read back at its place, all tests pass, and what is
--- answered is the definition's report, by the labels of the full known sequence.
+-- Reports on summaries that are made of intervals are the definition's: each summary is read back at its place, all tests pass, and what is answered is the
+-- definition's report, by the labels of the full known sequence.
 -- Assumes nothing.
 use mathlib.Core.Path.{_≡_, refl, ap, sym, _∙_}
 use mathlib.Core.Bool.{true}
-use mathlib.Core.List.{List, [], _∷_, _++_, map, append-assoc, append-nil}
-use Prim.Native.Nat.{ℕ, suc, _+_, _*_, _/_, _≤_, _<_}
+use mathlib.Core.List.{List, [], _++_, append-assoc, append-nil}
+use Prim.Native.Nat.{ℕ, _+_, _*_, _/_, _≤_, _<_}
 use native.Mathlib.Omega.{arith}
 use lib.ListN.{length, take, drop, length-append}
 use lib.Seq.{take-at, drop-at}
 use borrow.Author.Tests.{eq-eqb}
-use Rattle.records.specs.Limits.{intervals, pairs}
-use Rattle.records.specs.Many.{recordAt}
-use Rattle.records.specs.Settings.{labelMeets, settingsOf, sameLabel}
+use Rattle.numbers.specs.Limits.{intervals}
+use Rattle.numbers.specs.Many.{recordAt}
+use Rattle.numbers.proofs.Parts.{record-there}
+use Rattle.records.specs.Settings.{labelMeets, sameLabel}
 use Rattle.records.specs.declared.interval.Interval.{Interval}
 use Rattle.records.specs.declared.settings.LabelSettings.{LabelSettings}
-use Rattle.records.specs.declared.settings.Settings.{Settings}
-use Rattle.records.specs.declared.settings.SettingsRead.{SettingsRead}
-use Rattle.records.proofs.Parts.{record-there}
 use Rattle.records.proofs.SettingsRecord.{label-valid, same-label-self}
-use Rattle.labels.proofs.Placing.{read-label}
 use Rattle.tallies.specs.Report.{Labelled}
 use Rattle.tallies.proofs.Valid.{AllValid}
 use Rattle.periods.specs.Stretches.{stretchOf, firstOf, afterOf, labelOf, madeStretch, madeBytes}
 use Rattle.periods.specs.declared.StretchRead.{StretchRead}
 use Rattle.periods.proofs.Promises.{made-read, made-first, made-after, made-label, period-defined}
 use Rattle.periods.proofs.Sizes.{size-made}
-use Rattle.verdicts.specs.Verdicts.{verdictsOf}
-use Rattle.verdicts.specs.Sets.{ofSets}
-use Rattle.verdicts.specs.declared.Verdicts.{Verdicts}
-use Rattle.reports.specs.Circuits.{Circuit, threeBytes, setBytes, defined}
-use Rattle.reports.specs.Sets.{pairsFrom, setFrom, judgedOf}
+use Rattle.reports.specs.Circuits.{Circuit, threeBytes, defined}
 use Rattle.reports.specs.Three.{unless, suits, summaryAt, threeAt, reportOf}
-use Rattle.reports.specs.declared.sets.Judged.{Judged}
-use Rattle.reports.specs.declared.three.Reported.{Reported}
-use Rattle.reports.specs.declared.three.Wanted.{Wanted}
-use Rattle.reports.proofs.Going.{gone-over}
+use Rattle.reports.specs.declared.Reported.{Reported}
+use Rattle.reports.specs.declared.Wanted.{Wanted}
 use Rattle.reports.proofs.Judging.{adjoined, all-read}
 
 -- a circuit of valid intervals, no more than there are, with its labels
@@ -44,10 +35,6 @@ pub record Sound (l : LabelSettings) (x : Circuit) : Type 0 where
   pub behind : AllValid (x .behind)
   pub room : length (x .before) + length (x .middle) + length (x .behind) ≤ intervals
   pub labelled : Labelled l (x .before ++ (x .middle ++ x .behind)) (x .loss) (x .composite)
-
-unfoldable pub AllSound : LabelSettings → List Circuit → Type 0
-AllSound l [] = Unit {0}
-AllSound l (x ∷ xs) = Sound l x × AllSound l xs
 
 -- a record among others
 record-at : (s front x y : List ℕ) (k : ℕ) → s ≡ front ++ (x ++ y) → length front ≡ k * 1024 → length x ≡ 1024 → recordAt s 1024 k ≡ x
@@ -64,7 +51,7 @@ record-at s front x y k e f g =
 alike : (l : LabelSettings) (j k : ℕ) (vs ws : List Interval) → sameLabel (labelOf (madeStretch l j vs)) (labelOf (madeStretch l k ws)) ≡ true
 alike l j k vs ws = rw (made-label l j vs, made-label l k ws) (same-label-self l)
 
-size-three : (l : LabelSettings) (x : Circuit) → length (threeBytes l x) ≡ 3072
+pub size-three : (l : LabelSettings) (x : Circuit) → length (threeBytes l x) ≡ 3072
 unfolding threeBytes
 size-three l x = simp (length-append, size-made)
 
@@ -117,28 +104,3 @@ unfolding reportOf unless
 report-defined l valid x sound =
     rw (eq-eqb (length (threeBytes l x)) 3072 (size-three l x))
     (ap (λ s. threeAt Wanted.Any s 0) (sym (append-nil (threeBytes l x))) ∙ three-defined l valid x sound [] [] 0 refl Wanted.Any refl)
-
--- A set of made ones: the verdicts of the set are those of the definition's reports.
-
-set-by :
-    (v : Settings) → labelMeets (v .label) ≡ true → (xs : List Circuit) → AllSound (v .label) xs → (front : List ℕ) (k : ℕ) → length front ≡ k * 3072 → (passed : List Verdicts) →
-    setFrom v passed (pairsFrom (length xs) (v .label) (front ++ setBytes (v .label) xs) k) ≡ Judged.Answered (ofSets (passed ++ map (λ x. verdictsOf v (defined (v .label) x)) xs))
-unfolding setFrom pairsFrom setBytes AllSound
-set-by v valid [] sound front k e passed = ap (λ l. Judged.Answered (ofSets l)) (sym (append-nil passed))
-set-by v valid (x ∷ xs) sound front k e passed =
-    let l = v .label in
-    rw (three-defined l valid x (sound .0) front (setBytes l xs) (3 * k) (omega arith) (Wanted.These l) (same-label-self l), ← append-assoc front (threeBytes l x) (setBytes l xs))
-    (set-by v valid xs (sound .1) (front ++ threeBytes l x) (suc k) (omega (arith, length-append front (threeBytes l x), size-three l x)) (passed ++ (verdictsOf v (defined l x) ∷ []))
-    ∙ ap (λ l. Judged.Answered (ofSets l)) (append-assoc passed (verdictsOf v (defined l x) ∷ []) (map (λ x. verdictsOf v (defined (v .label) x)) xs)))
-
-size-set : (l : LabelSettings) (xs : List Circuit) → length (setBytes l xs) ≡ length xs * 3072
-unfolding setBytes
-size-set l [] = refl
-size-set l (x ∷ xs) = omega (arith, length-append (threeBytes l x) (setBytes l xs), size-three l x, size-set l xs)
-
-pub verdicts-defined :
-    (settings : List ℕ) (v : Settings) → settingsOf settings ≡ SettingsRead.Valid v → (xs : List Circuit) → AllSound (v .label) xs → 1 ≤ length xs → length xs ≤ pairs →
-    judgedOf settings (length xs) (setBytes (v .label) xs) ≡ Judged.Answered (ofSets (map (λ x. verdictsOf v (defined (v .label) x)) xs))
-verdicts-defined settings v read xs sound some few =
-    gone-over settings (length xs) (setBytes (v .label) xs) v read some few (size-set (v .label) xs)
-    ∙ set-by v (read-label settings v read) xs sound [] 0 refl []

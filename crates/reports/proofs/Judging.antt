@@ -8,9 +8,9 @@ use Prim.Native.Nat.{ℕ, _+_}
 use native.Mathlib.Omega.{arith}
 use lib.Dec.{eqb}
 use borrow.Author.Tests.{eqb-true}
-use Rattle.records.specs.Refusals.{refusal}
+use Rattle.numbers.specs.Refusals.{refusal}
+use Rattle.numbers.specs.declared.refusal.Fault.{Fault}
 use Rattle.records.specs.Settings.{sameLabel}
-use Rattle.records.specs.declared.refusal.Fault.{Fault}
 use Rattle.records.proofs.SettingsRecord.{same-label-equal}
 use Rattle.tallies.specs.Bounds.{PeriodBounded}
 use Rattle.tallies.specs.declared.Period.{Period}
@@ -19,8 +19,8 @@ use Rattle.periods.specs.declared.Stretch.{Stretch}
 use Rattle.periods.specs.declared.StretchRead.{StretchRead}
 use Rattle.periods.proofs.Promises.{period-bounded}
 use Rattle.reports.specs.Three.{unless, suits, judgedThree, judgedReads, summaryAt, threeAt, reportOf, ThreeRead}
-use Rattle.reports.specs.declared.three.Reported.{Reported}
-use Rattle.reports.specs.declared.three.Wanted.{Wanted}
+use Rattle.reports.specs.declared.Reported.{Reported}
+use Rattle.reports.specs.declared.Wanted.{Wanted}
 
 -- three that are read, of equal label settings, each right behind the one before
 pub known-by :

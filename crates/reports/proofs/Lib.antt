@@ -1,5 +1,4 @@
--- The laws of this crate that belong to no one function.
-pub mod Judging
-pub mod Going
-pub mod Places
+-- The laws of this crate that others cite.
 pub mod Defined
+pub mod Judging
+pub mod Places

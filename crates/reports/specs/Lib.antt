@@ -1,4 +1,2 @@
--- The definitions that the contracts cite.
-pub mod Three
-pub mod Sets
 pub mod Circuits
+pub mod Three

@@ -6,17 +6,17 @@ use mathlib.Core.Bool.{Bool, true, false}
 use mathlib.Core.List.{List}
 use lib.ListN.{length}
 use lib.Dec.{eqb}
-use Rattle.records.specs.Limits.{pairs}
-use Rattle.records.specs.Many.{recordAt}
-use Rattle.records.specs.Refusals.{refusal}
+use Rattle.numbers.specs.Limits.{pairs}
+use Rattle.numbers.specs.Many.{recordAt}
+use Rattle.numbers.specs.Refusals.{refusal}
+use Rattle.numbers.specs.declared.refusal.Fault.{Fault}
 use Rattle.records.specs.Settings.{sameLabel}
-use Rattle.records.specs.declared.refusal.Fault.{Fault}
 use Rattle.records.specs.declared.settings.LabelSettings.{LabelSettings}
 use Rattle.periods.specs.Stretches.{stretchOf, firstOf, afterOf, labelOf, periodOf}
 use Rattle.periods.specs.declared.Stretch.{Stretch}
 use Rattle.periods.specs.declared.StretchRead.{StretchRead}
-use Rattle.reports.specs.declared.three.Reported.{Reported}
-use Rattle.reports.specs.declared.three.Wanted.{Wanted}
+use Rattle.reports.specs.declared.Reported.{Reported}
+use Rattle.reports.specs.declared.Wanted.{Wanted}
 
 unfoldable pub unless : Bool → Fault → ℕ → Reported → Reported
 unless true f k r = r

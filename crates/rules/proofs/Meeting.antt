@@ -7,8 +7,8 @@ use native.Mathlib.Omega.{arith}
 use native.Mathlib.Decide.{decLt}
 use lib.Dec.{leb, ltb, eqb}
 use borrow.Author.Tests.{leb-true, ltb-true, eqb-true, eqb-false, not-true, le-leb, lt-ltb, eq-eqb, ne-eqb}
-use Rattle.records.specs.Limits.{intervals, largestDelay}
-use Rattle.records.specs.Rules.{metBy}
+use Rattle.numbers.specs.Limits.{intervals, largestDelay}
+use Rattle.numbers.specs.Rules.{metBy}
 use Rattle.runs.specs.declared.figures.Load.{Load}
 use Rattle.runs.specs.declared.figures.Figures.{Figures}
 use Rattle.runs.specs.declared.run.Edges.{Edges}

@@ -3,8 +3,8 @@ use mathlib.Core.Bool.{Bool, true, false, cond, not, _&&_, _||_, Bool·beq}
 use mathlib.Core.List.{List, [], _∷_}
 use Prim.Native.Nat.{ℕ, _+_, _-_, _*_}
 use lib.Dec.{leb, ltb, eqb}
-use Rattle.records.specs.Limits.{intervals, frames, largestDelay}
-use Rattle.records.specs.Rules.{metBy}
+use Rattle.numbers.specs.Limits.{intervals, frames, largestDelay}
+use Rattle.numbers.specs.Rules.{metBy}
 use Rattle.runs.specs.declared.figures.Load.{Load}
 use Rattle.runs.specs.declared.figures.Figures.{Figures}
 use Rattle.runs.specs.declared.run.Edges.{Edges}

@@ -2,7 +2,7 @@
 use mathlib.Core.Bool.{Bool, true, false, cond, not, _&&_, Bool·beq}
 use Prim.Native.Nat.{ℕ, _+_, _-_}
 use lib.Dec.{leb, eqb}
-use Rattle.records.specs.Limits.{largestDelay}
+use Rattle.numbers.specs.Limits.{largestDelay}
 use Rattle.tallies.specs.declared.Marked.{Marked}
 use Rattle.runs.specs.declared.figures.Load.{Load}
 use Rattle.runs.specs.declared.figures.Figures.{Figures}

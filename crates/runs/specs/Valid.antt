@@ -2,7 +2,7 @@
 use mathlib.Core.Path.{_≡_}
 use mathlib.Core.Bool.{Bool, true, false}
 use Prim.Native.Nat.{ℕ, _+_, _-_, _*_, _≤_, _<_}
-use Rattle.records.specs.Limits.{frames, largestDelay}
+use Rattle.numbers.specs.Limits.{frames, largestDelay}
 use Rattle.runs.specs.declared.figures.Load.{Load}
 use Rattle.runs.specs.declared.figures.Figures.{Figures}
 use Rattle.runs.specs.declared.run.Edges.{Edges}

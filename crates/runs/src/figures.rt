@@ -1,5 +1,5 @@
 // Figures of intervals, and how they add up.
-use records::limits::LARGEST_DELAY;
+use numbers::limits::LARGEST_DELAY;
 use tallies::Totals;
 ghost use mathlib.Core.Path.{_≡_};
 ghost use Prim.Native.Nat.{_-_, max};

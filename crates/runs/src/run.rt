@@ -2,7 +2,7 @@
 use crate::figures;
 use crate::figures::Figures;
 use crate::figures::Load;
-use records::limits::LARGEST_DELAY;
+use numbers::limits::LARGEST_DELAY;
 use tallies::Marked;
 ghost use mathlib.Core.Path.{_≡_};
 ghost use mathlib.Core.Bool.{cond};

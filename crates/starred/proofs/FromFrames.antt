@@ -2,7 +2,7 @@
 -- Assumes nothing.
 use mathlib.Core.Path.{_≡_, refl}
 use mathlib.Core.Bool.{true, false}
-use Rattle.records.specs.Limits.{million}
+use Rattle.numbers.specs.Limits.{million}
 use Rattle.rule.specs.Marks.{above, weighed, nothingWeighed, indicator, highComposite}
 use Rattle.labels.specs.Marked.{countsOf, compositeMark}
 use Rattle.measure.specs.Measured.{countIf, pairsIf, isLost, isLate, isPair, apart, isJumpy, delaysOf, sumOf, leastOf, mostOf, measured}

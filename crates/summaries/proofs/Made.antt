@@ -1,14 +1,12 @@
--- A stretch cut anywhere: the summary of all its intervals is the join of those of its two parts, on values and so in bytes; and a summary made of valid
--- intervals meets every rule, so that its bytes read back.
+-- A summary made of valid intervals meets every rule, so that its bytes read back.
 -- Assumes nothing.
 use mathlib.Core.Path.{_≡_, refl, ap, sym, _∙_}
 use mathlib.Core.Bool.{Bool, true, cond}
-use mathlib.Core.List.{List, [], _∷_, _++_, map, map-append}
+use mathlib.Core.List.{List, [], _∷_, map}
 use Prim.Native.Nat.{ℕ, suc, _+_, _-_, _≤_}
-use native.Mathlib.Nat.{add-assoc}
 use native.Mathlib.Omega.{arith}
-use lib.ListN.{length, length-append, length-map}
-use Rattle.records.specs.Limits.{intervals}
+use lib.ListN.{length, length-map}
+use Rattle.numbers.specs.Limits.{intervals}
 use Rattle.records.specs.Settings.{labelMeets}
 use Rattle.records.specs.declared.interval.Interval.{Interval}
 use Rattle.records.specs.declared.settings.LabelSettings.{LabelSettings}
@@ -16,38 +14,14 @@ use Rattle.labels.specs.Marked.{lossMark, compositeMark}
 use Rattle.tallies.specs.Seen.{markedAs, lossSeen, compositeSeen}
 use Rattle.tallies.proofs.Valid.{AllValid}
 use Rattle.rules.proofs.Marking.{all-sound}
-use Rattle.tracks.specs.Tracks.{summary}
 use Rattle.tallies.specs.Tally.{serving}
-use Rattle.tracks.proofs.Joining.{summary-append}
 use Rattle.tracks.proofs.Keeping.{made-valid}
 use Rattle.tracks.proofs.Serving.{count-summary}
-use Rattle.summaries.specs.Joining.{joinedOf}
-use Rattle.summaries.specs.Making.{madeOf}
 use Rattle.summaries.specs.Stored.{summaryOf, summaryBytes}
-use Rattle.summaries.specs.declared.stored.SummaryRead.{SummaryRead}
+use Rattle.summaries.specs.declared.SummaryRead.{SummaryRead}
 use Rattle.summaries.proofs.RoundTrip.{read-write}
 use Rattle.summaries.proofs.Validity.{SummaryValid}
-
-pub join-made :
-    (l : LabelSettings) (first : ℕ) (xs ys : List Interval) → madeOf l first (xs ++ ys) ≡ joinedOf (madeOf l first xs) (madeOf l (first + length xs) ys)
-unfolding madeOf joinedOf
-join-made l first xs ys =
-    λ i.
-    record {
-      first = first;
-      after = (ap (λ k. first + k) (length-append xs ys) ∙ sym (add-assoc first (length xs) (length ys))) i;
-      label = l;
-      loss =
-          (ap (summary (l .n) (l .p)) (map-append (lossSeen l) xs ys) ∙ summary-append (l .n) (l .p) (map (lossSeen l) xs) (map (lossSeen l) ys)) i;
-      composite =
-          (ap (summary (l .n) (l .p)) (map-append (compositeSeen l) xs ys) ∙ summary-append (l .n) (l .p) (map (compositeSeen l) xs) (map (compositeSeen l) ys)) i;
-    }
-
--- so the bytes of the uncut stretch are those of its parts, joined
-pub join-made-bytes :
-    (l : LabelSettings) (first : ℕ) (xs ys : List Interval) →
-    summaryBytes (madeOf l first (xs ++ ys)) ≡ summaryBytes (joinedOf (madeOf l first xs) (madeOf l (first + length xs) ys))
-join-made-bytes l first xs ys = ap summaryBytes (join-made l first xs ys)
+use Rattle.summaries.specs.Made.{madeOf}
 
 -- maintenance is the same on both tracks
 serving-same : (f g : Interval → Bool) (vs : List Interval) → serving (map (λ v. markedAs (f v) v) vs) ≡ serving (map (λ v. markedAs (g v) v) vs)

@@ -7,16 +7,16 @@ use native.Mathlib.Omega.{arith}
 use lib.ListN.{length, take, drop, length-append}
 use lib.Seq.{sets, sets-eq, length-sets, drop-drop}
 use borrow.Rule.Slice.PartMut.{putMid}
-use Rattle.records.specs.Bytes.{bytesOf, placed}
+use Rattle.numbers.specs.Bytes.{bytesOf, placed}
+use Rattle.numbers.proofs.Numbers.{length-bytes}
+use Rattle.numbers.proofs.Window.{part-placed, sets-whole}
 use Rattle.records.specs.Settings.{labelBytes}
-use Rattle.records.proofs.Numbers.{length-bytes}
 use Rattle.records.proofs.RoundTrip.{length-label}
-use Rattle.records.proofs.Window.{part-placed, sets-whole}
 use Rattle.layout.specs.Bytes.{trackBytes}
 use Rattle.layout.proofs.Laying.{piece, laid-joined}
 use Rattle.layout.proofs.Sizes.{size-track}
 use Rattle.summaries.specs.Stored.{summaryBytes}
-use Rattle.summaries.specs.declared.stored.Summary.{Summary}
+use Rattle.summaries.specs.declared.Summary.{Summary}
 
 -- a part that is lent on and filled from its start is the buffer filled from there
 part-sets :

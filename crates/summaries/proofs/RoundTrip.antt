@@ -10,14 +10,14 @@ use native.Mathlib.Omega.{arith}
 use lib.ListN.{length, getD, take, drop, length-append}
 use lib.Seq.{drop-cons}
 use borrow.Author.Tests.{le-leb, eq-eqb, eqb-true}
-use Rattle.records.specs.Bytes.{numberAt, part, bytesOf, areZero, Bytes}
-use Rattle.records.specs.Limits.{intervals}
-use Rattle.records.specs.Rules.{allMet}
+use Rattle.numbers.specs.Bytes.{numberAt, part, bytesOf, areZero, Bytes}
+use Rattle.numbers.specs.Limits.{intervals}
+use Rattle.numbers.specs.Rules.{allMet}
+use Rattle.numbers.proofs.Bounds.{intervals-fit}
+use Rattle.numbers.proofs.Numbers.{number-of-bytes, length-bytes, length-part, part-is-bytes, part-append, part-whole}
+use Rattle.numbers.proofs.Rules.{rule-met}
 use Rattle.records.specs.Settings.{labelIn, shapeBytes, thresholdBytes, labelBytes}
 use Rattle.records.specs.declared.settings.LabelSettings.{LabelSettings}
-use Rattle.records.proofs.Bounds.{intervals-fit}
-use Rattle.records.proofs.Numbers.{number-of-bytes, length-bytes, length-part, part-is-bytes, part-append, part-whole}
-use Rattle.records.proofs.Rules.{rule-met}
 use Rattle.records.proofs.RoundTrip.{part-bytes, zero-bytes, length-label, label-read-write, label-write-read}
 use Rattle.rules.proofs.Meeting.{track-meets}
 use Rattle.tracks.specs.Tracks.{countIn}
@@ -28,8 +28,8 @@ use Rattle.layout.proofs.Shifting.{zeros-at, track-at, words-at}
 use Rattle.layout.proofs.WriteRead.{track-write-read}
 use Rattle.layout.proofs.Sizes.{size-track}
 use Rattle.summaries.specs.Stored.{summaryIn, headerRules, headerMeets, trackRules, tracksMeet, summaryRules, summaryOf, summaryBytes}
-use Rattle.summaries.specs.declared.stored.Summary.{Summary}
-use Rattle.summaries.specs.declared.stored.SummaryRead.{SummaryRead}
+use Rattle.summaries.specs.declared.Summary.{Summary}
+use Rattle.summaries.specs.declared.SummaryRead.{SummaryRead}
 use Rattle.summaries.proofs.InField.{track-in-field}
 use Rattle.summaries.proofs.Validity.{SummaryValid, taken-out}
 

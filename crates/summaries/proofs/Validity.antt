@@ -6,16 +6,16 @@ use mathlib.Core.List.{List}
 use Prim.Native.Nat.{ℕ, _-_, _≤_}
 use native.Mathlib.Omega.{arith}
 use borrow.Author.Tests.{leb-true, eqb-true}
-use Rattle.records.specs.Limits.{intervals}
-use Rattle.records.specs.Rules.{allMet}
+use Rattle.numbers.specs.Limits.{intervals}
+use Rattle.numbers.specs.Rules.{allMet}
+use Rattle.numbers.proofs.Rules.{rule-met}
 use Rattle.records.specs.Settings.{labelMeets}
-use Rattle.records.proofs.Rules.{rule-met}
 use Rattle.rules.proofs.Meeting.{track-met}
 use Rattle.tracks.specs.Tracks.{countIn}
 use Rattle.tracks.specs.Valid.{TrackValid}
 use Rattle.summaries.specs.Stored.{summaryIn, headerRules, headerMeets, trackRules, tracksMeet, summaryRules, summaryOf, validIf}
-use Rattle.summaries.specs.declared.stored.Summary.{Summary}
-use Rattle.summaries.specs.declared.stored.SummaryRead.{SummaryRead}
+use Rattle.summaries.specs.declared.Summary.{Summary}
+use Rattle.summaries.specs.declared.SummaryRead.{SummaryRead}
 
 pub record SummaryValid (v : Summary) : Type 0 where
   pub ordered : v .first ≤ v .after

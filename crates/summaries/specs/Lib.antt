@@ -1,3 +1,2 @@
-pub mod Joining
+pub mod Made
 pub mod Stored
-pub mod Making

@@ -4,16 +4,16 @@ use mathlib.Core.Bool.{Bool, true, false}
 use mathlib.Core.List.{List, [], _∷_, _++_}
 use lib.ListN.{length, getD, take, drop}
 use lib.Dec.{leb, eqb}
-use Rattle.records.specs.Bytes.{numberAt, areZero, bytesOf}
-use Rattle.records.specs.Limits.{intervals}
-use Rattle.records.specs.Rules.{allMet}
+use Rattle.numbers.specs.Bytes.{numberAt, areZero, bytesOf}
+use Rattle.numbers.specs.Limits.{intervals}
+use Rattle.numbers.specs.Rules.{allMet}
 use Rattle.records.specs.Settings.{labelIn, labelMeets, labelBytes}
 use Rattle.layout.specs.Bytes.{trackBytes}
 use Rattle.layout.specs.Reading.{trackIn, wordsMeet}
 use Rattle.rules.specs.Meets.{trackMeets}
 use Rattle.tracks.specs.Tracks.{countIn}
-use Rattle.summaries.specs.declared.stored.Summary.{Summary}
-use Rattle.summaries.specs.declared.stored.SummaryRead.{SummaryRead}
+use Rattle.summaries.specs.declared.Summary.{Summary}
+use Rattle.summaries.specs.declared.SummaryRead.{SummaryRead}
 
 -- where each value stands
 unfoldable pub summaryIn : List ℕ → Summary

@@ -5,22 +5,22 @@ use mathlib.Core.Path.{_≡_, refl, ap, sym, _∙_}
 use native.Mathlib.Omega.{arith}
 use lib.ListN.{length}
 use borrow.Author.Tests.{le-leb, lt-leb, eq-eqb, ne-eqb}
-use Rattle.records.specs.Limits.{pairs}
-use Rattle.records.specs.Refusals.{refusal}
+use Rattle.numbers.specs.Limits.{pairs}
+use Rattle.numbers.specs.Refusals.{refusal}
+use Rattle.numbers.specs.declared.refusal.Fault.{Fault}
+use Rattle.numbers.specs.declared.refusal.Refusal.{Refusal}
 use Rattle.records.specs.Settings.{settingsOf}
-use Rattle.records.specs.declared.refusal.Fault.{Fault}
-use Rattle.records.specs.declared.refusal.Refusal.{Refusal}
 use Rattle.records.specs.declared.settings.Settings.{Settings}
 use Rattle.records.specs.declared.settings.SettingsRead.{SettingsRead}
 use Rattle.tallies.specs.declared.Period.{Period}
 use Rattle.verdicts.specs.declared.Verdicts.{Verdicts}
-use Rattle.reports.specs.Sets as sets
-use Rattle.reports.specs.Sets.{judgedOf}
 use Rattle.reports.specs.Three as three
 use Rattle.reports.specs.Three.{reportOf}
-use Rattle.reports.specs.declared.sets.Judged.{Judged}
-use Rattle.reports.specs.declared.three.Reported.{Reported}
-use Rattle.reports.proofs.Going.{gone-over}
+use Rattle.reports.specs.declared.Reported.{Reported}
+use Rattle.sets.specs.Sets as sets
+use Rattle.sets.specs.Sets.{judgedOf}
+use Rattle.sets.specs.declared.Judged.{Judged}
+use Rattle.sets.proofs.Going.{gone-over}
 use Rattle.words.specs.Written.{over, written}
 use Rattle.summary_words.specs.ReportList.{countWords, sumWords, compositeWords, figureWords, verdictWords, reportTold, reportWord, reportWords, ReportLeft, verdictsTold, verdictsWord, verdictsWords, VerdictsLeft}
 use Rattle.words.specs.Word.{wordOf}

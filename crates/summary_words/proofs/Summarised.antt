@@ -9,27 +9,27 @@ use native.Mathlib.Omega.{arith}
 use lib.ListN.{length}
 use lib.Dec.{eqb}
 use borrow.Author.Tests.{le-ltb, lt-ltb}
-use Rattle.records.specs.Limits.{intervals}
-use Rattle.records.specs.Many.{countOf}
-use Rattle.records.specs.Refusals.{refusal}
-use Rattle.records.specs.Room.{hasRoom}
+use Rattle.numbers.specs.Limits.{intervals}
+use Rattle.numbers.specs.Many.{countOf}
+use Rattle.numbers.specs.Refusals.{refusal}
+use Rattle.numbers.specs.Room.{hasRoom}
+use Rattle.numbers.specs.declared.many.Counted.{Counted}
+use Rattle.numbers.specs.declared.refusal.Fault.{Fault}
+use Rattle.numbers.specs.declared.refusal.Refusal.{Refusal}
 use Rattle.records.specs.Sequence.{readsFrom, intervalsIn, checked}
 use Rattle.records.specs.Settings.{settingsOf, sameLabel}
 use Rattle.records.specs.declared.interval.Sequence.{Sequence}
-use Rattle.records.specs.declared.many.Counted.{Counted}
-use Rattle.records.specs.declared.refusal.Fault.{Fault}
-use Rattle.records.specs.declared.refusal.Refusal.{Refusal}
 use Rattle.records.specs.declared.settings.LabelSettings.{LabelSettings}
 use Rattle.records.specs.declared.settings.SettingsRead.{SettingsRead}
 use Rattle.labels.proofs.Places.{checked-place}
-use Rattle.summaries.specs.Joining
-use Rattle.summaries.specs.Making
 use Rattle.summaries.specs.Stored.{summaryOf}
-use Rattle.summaries.specs.declared.joining.Joined.{Joined}
-use Rattle.summaries.specs.declared.making.Gathered.{Gathered}
-use Rattle.summaries.specs.declared.making.Made.{Made}
-use Rattle.summaries.specs.declared.stored.Summary.{Summary}
-use Rattle.summaries.specs.declared.stored.SummaryRead.{SummaryRead}
+use Rattle.summaries.specs.declared.Summary.{Summary}
+use Rattle.summaries.specs.declared.SummaryRead.{SummaryRead}
+use Rattle.making.specs.Making
+use Rattle.making.specs.declared.Gathered.{Gathered}
+use Rattle.making.specs.declared.Made.{Made}
+use Rattle.joining.specs.Joining
+use Rattle.joining.specs.declared.Joined.{Joined}
 use Rattle.summary_words.specs.SummaryList.{madeWord, joinedWord, SummaryLeft, JoinLeft}
 
 -- the place of a fault, 0 where there is none

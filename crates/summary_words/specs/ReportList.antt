@@ -5,23 +5,23 @@ use mathlib.Core.List.{List, [], _∷_, _++_}
 use mathlib.Core.Path.{_≡_}
 use lib.ListN.{length}
 use lib.Dec.{leb, eqb}
-use Rattle.records.specs.Limits.{pairs}
-use Rattle.records.specs.Refusals.{refusal}
+use Rattle.numbers.specs.Limits.{pairs}
+use Rattle.numbers.specs.Refusals.{refusal}
+use Rattle.numbers.specs.declared.refusal.Fault.{Fault}
 use Rattle.records.specs.Settings.{settingsOf}
-use Rattle.records.specs.declared.refusal.Fault.{Fault}
 use Rattle.records.specs.declared.settings.SettingsRead.{SettingsRead}
 use Rattle.tallies.specs.declared.Counts.{Counts}
 use Rattle.tallies.specs.declared.Period.{Period}
 use Rattle.tallies.specs.declared.Totals.{Totals}
 use Rattle.verdicts.specs.Verdicts.{verdictNumber}
 use Rattle.verdicts.specs.declared.Verdicts.{Verdicts}
-use Rattle.reports.specs.Sets as sets
-use Rattle.reports.specs.Sets.{pairsFrom, setFrom}
 use Rattle.reports.specs.Three as three
 use Rattle.reports.specs.Three.{threeAt}
-use Rattle.reports.specs.declared.sets.Judged.{Judged}
-use Rattle.reports.specs.declared.three.Reported.{Reported}
-use Rattle.reports.specs.declared.three.Wanted.{Wanted}
+use Rattle.reports.specs.declared.Reported.{Reported}
+use Rattle.reports.specs.declared.Wanted.{Wanted}
+use Rattle.sets.specs.Sets as sets
+use Rattle.sets.specs.Sets.{pairsFrom, setFrom}
+use Rattle.sets.specs.declared.Judged.{Judged}
 use Rattle.words.specs.Written.{over}
 use Rattle.words.specs.Word.{wordOf}
 

@@ -3,10 +3,10 @@ use Prim.Native.Nat.{ℕ}
 use mathlib.Core.List.{List}
 use mathlib.Core.Path.{_≡_}
 use lib.ListN.{length}
-use Rattle.summaries.specs.Joining
-use Rattle.summaries.specs.Making
-use Rattle.summaries.specs.declared.joining.Joined.{Joined}
-use Rattle.summaries.specs.declared.making.Made.{Made}
+use Rattle.making.specs.Making
+use Rattle.making.specs.declared.Made.{Made}
+use Rattle.joining.specs.Joining
+use Rattle.joining.specs.declared.Joined.{Joined}
 use Rattle.words.specs.Word.{wordOf}
 
 abbrev pub madeWord : Made → ℕ

@@ -1,13 +1,11 @@
 // The report of a period and the verdicts of a set of pairs, as words.
-use records::limits;
-use records::refusal::Fault;
-use records::refusal::Refusal;
+use numbers::limits;
+use numbers::refusal::Fault;
+use numbers::refusal::Refusal;
 use records::settings;
 use records::settings::SettingsRead;
-use reports::sets;
-use reports::sets::Judged;
-use reports::three;
-use reports::three::Reported;
+use reports::Reported;
+use sets::Judged;
 use tallies::Counts;
 use tallies::Period;
 use tallies::Totals;
@@ -16,7 +14,7 @@ use words::word;
 ghost use mathlib.Core.Path.{_≡_};
 ghost use lib.ListN.{length};
 ghost use Prim.Native.Nat.{_≤_};
-ghost use Rattle.records.specs.Refusals.{refusal};
+ghost use Rattle.numbers.specs.Refusals.{refusal};
 ghost use Rattle.words.specs.Written.{written, over};
 ghost use Rattle.summary_words.specs.ReportList.{countWords, sumWords, compositeWords, figureWords, verdictWords, ReportLeft, VerdictsLeft};
 ghost use Rattle.words.specs.Word.{wordOf};
@@ -104,7 +102,7 @@ pub fn mip_report(summaries: &[u8], figures: &mut [u64]) -> u64
     if figures.len() < 15 {
         return refused(Fault::Room);
     }
-    match three::report(summaries) {
+    match reports::report(summaries) {
         Reported::Refused(r) => word::word(r),
         Reported::Answered(p) => {
             put_report(p, figures);

@@ -1,8 +1,6 @@
 // Summaries of stretches: made of interval records, and joined.
-use summaries::joining;
-use summaries::joining::Joined;
-use summaries::making;
-use summaries::making::Made;
+use joining::Joined;
+use making::Made;
 use words::word;
 ghost use Rattle.summary_words.specs.SummaryList.{SummaryLeft, JoinLeft};
 

@@ -6,7 +6,7 @@ use mathlib.Core.Bool.{true, false}
 use mathlib.Core.List.{List, [], _∷_, _++_, map}
 use Prim.Native.Nat.{ℕ}
 use lib.ListN.{length}
-use Rattle.records.specs.Limits.{million}
+use Rattle.numbers.specs.Limits.{million}
 use Rattle.records.specs.declared.interval.Interval.{Interval}
 use Rattle.records.specs.declared.settings.LabelSettings.{LabelSettings}
 use Rattle.rule.specs.Evaluator.{settles, gain, turn, run, told, labelling}

@@ -2,7 +2,7 @@
 -- than there is.
 use mathlib.Core.Path.{_≡_}
 use Prim.Native.Nat.{ℕ, _+_, _-_, _*_, _≤_}
-use Rattle.records.specs.Limits.{frames, largestDelay, intervals}
+use Rattle.numbers.specs.Limits.{frames, largestDelay, intervals}
 use Rattle.tallies.specs.declared.Totals.{Totals}
 use Rattle.tallies.specs.declared.Tally.{Tally}
 use Rattle.tallies.specs.declared.Period.{Period}

@@ -11,7 +11,7 @@ use lib.Dec.{eqb, ltb}
 use lib.ListN.{length, length-map}
 use borrow.Author.Tests.{ltb-true, ltb-false, eq-eqb, ne-eqb}
 use Rattle.rule.specs.Labels.{Label, settled, undecided}
-use Rattle.records.specs.Limits.{largestDelay}
+use Rattle.numbers.specs.Limits.{largestDelay}
 use Rattle.tallies.specs.declared.Marked.{Marked}
 use Rattle.runs.specs.Figures.{idle, both, reported}
 use Rattle.runs.specs.Runs.{gross, maintained}

@@ -6,7 +6,7 @@ use mathlib.Core.List.{[], _∷_}
 use Prim.Native.Nat.{ℕ}
 use native.Mathlib.Omega.{arith}
 use Rattle.rule.specs.Labels.{Label}
-use Rattle.records.specs.Limits.{frames, largestDelay}
+use Rattle.numbers.specs.Limits.{frames, largestDelay}
 use Rattle.tallies.specs.declared.Marked.{Marked}
 use Rattle.runs.specs.Figures.{idle, both, none, plus, reported}
 use Rattle.runs.specs.Runs.{long, tie, closed, headroomOf, gross, loadOf, single, glue, same, figuresOf, maintained}

@@ -3,7 +3,7 @@
 use mathlib.Core.Path.{_≡_}
 use mathlib.Core.Bool.{Bool, not, Bool·beq}
 use Prim.Native.Nat.{ℕ, _+_, _≤_}
-use Rattle.records.specs.Limits.{intervals}
+use Rattle.numbers.specs.Limits.{intervals}
 use Rattle.runs.specs.declared.run.Run.{Run}
 use Rattle.runs.specs.declared.middles.Label.the-variants.{Says}
 use Rattle.runs.specs.declared.middles.Middle.{Middle}

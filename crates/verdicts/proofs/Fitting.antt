@@ -1,7 +1,7 @@
 -- Every report that can come out, judged by valid settings, keeps the products in 64 bits.
 use Prim.Native.Nat.{ℕ}
 use native.Mathlib.Omega.{arith}
-use Rattle.records.specs.Limits.{intervals, frames}
+use Rattle.numbers.specs.Limits.{intervals, frames}
 use Rattle.records.specs.declared.settings.Settings.{Settings}
 use Rattle.records.proofs.SettingsRecord.{SettingsValid}
 use Rattle.tallies.specs.declared.Period.{Period}

@@ -4,7 +4,7 @@ use mathlib.Core.Bool.{Bool, true, false}
 use Prim.Native.Nat.{ℕ, zero, suc, _+_, _-_, _*_, _<_}
 use native.Mathlib.Omega.{arith}
 use borrow.Author.Tests.{le-leb}
-use Rattle.records.specs.Limits.{million}
+use Rattle.numbers.specs.Limits.{million}
 use Rattle.records.specs.declared.settings.Settings.{Settings}
 use Rattle.tallies.specs.declared.Period.{Period}
 use Rattle.tallies.specs.declared.Totals.{Totals}

@@ -1,6 +1,6 @@
 -- Document 01's line on verdicts: available 15 of 17 is met at 882,352 and not at 882,353. Computed from the definition.
 use mathlib.Core.Path.{_≡_, refl}
-use Rattle.records.specs.Limits.{million}
+use Rattle.numbers.specs.Limits.{million}
 use Rattle.verdicts.specs.declared.Verdict.{Verdict}
 use Rattle.verdicts.specs.Verdicts.{judged, enough}
 

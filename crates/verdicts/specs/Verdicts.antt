@@ -3,7 +3,7 @@
 use mathlib.Core.Bool.{Bool, true, false}
 use Prim.Native.Nat.{ℕ, zero, suc, _+_, _-_, _*_, _≤_}
 use lib.Dec.{leb}
-use Rattle.records.specs.Limits.{intervals, frames, million, largestDelay}
+use Rattle.numbers.specs.Limits.{intervals, frames, million, largestDelay}
 use Rattle.records.specs.declared.settings.Settings.{Settings}
 use Rattle.tallies.specs.declared.Totals.{Totals}
 use Rattle.tallies.specs.declared.Period.{Period}

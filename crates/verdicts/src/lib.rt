@@ -1,12 +1,12 @@
 // Verdicts of a report against the objectives of settings, and of a set of reports.
-use records::limits;
+use numbers::limits;
 use records::settings::Settings;
 use tallies::Period;
 use tallies::Totals;
 ghost use mathlib.Core.Path.{_≡_};
 ghost use mathlib.Core.List.{[], _∷_};
 ghost use Prim.Native.Nat.{_+_, _*_, _≤_};
-ghost use Rattle.records.specs.Limits.{intervals, frames, million, largestDelay};
+ghost use Rattle.numbers.specs.Limits.{intervals, frames, million, largestDelay};
 ghost use Rattle.verdicts.specs.Verdicts.{verdictNumber, judged, enough, lossMet, meanMet, Judgeable, verdictsOf};
 ghost use Rattle.verdicts.specs.Sets.{ofSet, ofSets};
 

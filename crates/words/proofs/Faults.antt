@@ -1,8 +1,8 @@
 -- A fault's number is one digit, so a refusal fits its word.
 use Prim.Native.Nat.{_≤_}
 use native.Mathlib.Omega.{arith}
-use Rattle.records.specs.Refusals.{numberOf}
-use Rattle.records.specs.declared.refusal.Fault.{Fault}
+use Rattle.numbers.specs.Refusals.{numberOf}
+use Rattle.numbers.specs.declared.refusal.Fault.{Fault}
 
 pub number-most : (f : Fault) → numberOf f ≤ 9
 number-most Fault.Settings = omega arith

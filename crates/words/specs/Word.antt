@@ -1,7 +1,7 @@
 -- A refusal as one word.
 use Prim.Native.Nat.{ℕ, _+_, _*_, _^_}
-use Rattle.records.specs.Refusals.{numberOf}
-use Rattle.records.specs.declared.refusal.Refusal.{Refusal}
+use Rattle.numbers.specs.Refusals.{numberOf}
+use Rattle.numbers.specs.declared.refusal.Refusal.{Refusal}
 
 -- number × 2^32 + place
 abbrev pub wordOf : Refusal → ℕ

@@ -1,6 +1,6 @@
 // A refusal as one word: number × 2^32 + place.
-use records::refusal;
-use records::refusal::Refusal;
+use numbers::refusal;
+use numbers::refusal::Refusal;
 ghost use mathlib.Core.Path.{_≡_};
 ghost use Prim.Native.Nat.{_^_, _<_};
 ghost use Rattle.words.specs.Word.{wordOf};

@@ -3,7 +3,7 @@
 use mathlib.Core.Path.{_∙_}
 use borrow.Author.Needs.{needs}
 use native.Mathlib.Omega.{arith}
-use Rattle.records.specs.Limits.{delays, largestDelay}
+use Rattle.numbers.specs.Limits.{delays, largestDelay}
 use Rattle.delays.proofs.Judged.{judged-full, judged-field, judged-none, judged-found, least-under}
 use Rattle.delays.proofs.judge.Statement.{statement}
 use Rattle.delays.proofs.judge.Tie as tie

@@ -1,7 +1,7 @@
 -- `rank` rounds Pr × N over 1,000,000 up. Nothing overflows: Pr is at most 1,000,000 and N too.
 use borrow.Author.Needs.{needs}
 use native.Mathlib.Omega.{arith}
-use Rattle.records.specs.Limits.{delays}
+use Rattle.numbers.specs.Limits.{delays}
 use Rattle.delays.proofs.Rounding.{rank-meets, product-fits}
 use Rattle.delays.proofs.rank.Statement.{statement}
 use Rattle.delays.proofs.rank.Tie as tie

@@ -1,7 +1,7 @@
 -- `evaluator::feed`: each track goes by its own mark, and the answer by what that settled.
 use borrow.Author.Needs.{needs}
 use native.Mathlib.Omega.{arith}
-use Rattle.records.proofs.Bounds.{intervals-fit}
+use Rattle.numbers.proofs.Bounds.{intervals-fit}
 use Rattle.evaluator.specs.Evaluators.{fedWith, answerOf}
 use Rattle.evaluator.proofs.feed.Statement.{statement}
 use Rattle.evaluator.proofs.feed.Tie as tie

@@ -2,7 +2,7 @@
 use borrow.Author.Needs.{needs}
 use mathlib.Core.Path.{sym, _∙_}
 use mathlib.Core.Bool.{true, false}
-use Rattle.records.specs.Limits.{intervals}
+use Rattle.numbers.specs.Limits.{intervals}
 use Rattle.evaluator.proofs.Words.{held-words, held-not}
 use Rattle.evaluator.proofs.held_in.Statement.{statement}
 use Rattle.evaluator.proofs.held_in.Tie as tie

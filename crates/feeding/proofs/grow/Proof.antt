@@ -2,7 +2,7 @@
 -- Assumes nothing.
 use mathlib.Core.Path.{ap, sym, _∙_}
 use native.Mathlib.Omega.{arith}
-use Rattle.records.specs.Limits.{intervals}
+use Rattle.numbers.specs.Limits.{intervals}
 use Rattle.summaries.proofs.Validity.{summary-valid}
 use Rattle.feeding.specs.declared.Held.{Held}
 use Rattle.feeding.proofs.Waiting.{grown-good, grown-bad}

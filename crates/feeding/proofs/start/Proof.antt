@@ -2,7 +2,7 @@
 -- Assumes nothing.
 use mathlib.Core.Path.{ap, sym, _∙_}
 use Rattle.tracks.specs.Tracks.{pushAll, summary}
-use Rattle.summaries.specs.Making.{madeOf}
+use Rattle.summaries.specs.Made.{madeOf}
 use Rattle.feeding.specs.Feeding.{begunBy, begun}
 use borrow.Author.Needs.{needs}
 use Rattle.feeding.proofs.start.Statement.{statement}

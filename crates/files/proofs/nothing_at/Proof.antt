@@ -4,7 +4,7 @@ use mathlib.Core.Path.{sym}
 use native.Mathlib.Nat.{add-zero}
 use Rattle.tracks.specs.declared.Track.the-variants.{Nothing}
 use Rattle.tracks.specs.Tracks.{pushAll, summary}
-use Rattle.summaries.specs.Making.{madeOf}
+use Rattle.summaries.specs.Made.{madeOf}
 use Rattle.files.specs.Files.{stretch}
 use Rattle.files.proofs.nothing_at.Statement.{statement}
 use Rattle.files.proofs.nothing_at.Tie as tie

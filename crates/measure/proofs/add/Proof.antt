@@ -2,8 +2,8 @@
 -- Assumes nothing.
 use native.Mathlib.Omega.{arith}
 use mathlib.Core.Path.{refl}
-use Rattle.records.specs.Limits.{frames, largestDelay}
-use Rattle.records.proofs.Bounds.{frames-fit}
+use Rattle.numbers.specs.Limits.{frames, largestDelay}
+use Rattle.numbers.proofs.Bounds.{frames-fit}
 use Rattle.measure.specs.Running.{added}
 use borrow.Author.Needs.{needs}
 use Rattle.measure.proofs.add.Statement.{statement}

@@ -5,11 +5,11 @@ use mathlib.Core.Bool.{true}
 use Prim.Native.Nat.{_+_, _≤_}
 use native.Mathlib.Omega.{arith}
 use lib.ListN.{length}
+use Rattle.numbers.specs.Room.{hasRoom}
+use Rattle.numbers.proofs.Window.{room-within, part-placed}
 use Rattle.records.specs.Interval.{intervalBytes}
-use Rattle.records.specs.Room.{hasRoom}
 use Rattle.records.proofs.IntervalRecord.{length-interval}
 use Rattle.records.proofs.SettingsRecord.{settings-valid}
-use Rattle.records.proofs.Window.{room-within, part-placed}
 use Rattle.measure.proofs.Judging.{no-settings, no-length, no-room, not-sound, made}
 use borrow.Author.Needs.{needs}
 use borrow.Author.Tests.{not-true, not-false}

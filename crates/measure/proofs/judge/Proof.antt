@@ -4,7 +4,7 @@ use mathlib.Core.Path.{ap, sym, _∙_}
 use Prim.Native.Nat.{_+_, _*_, _^_, _<_}
 use native.Mathlib.Omega.{arith}
 use lib.Dec.{eqb}
-use Rattle.records.specs.Limits.{frames, intervals}
+use Rattle.numbers.specs.Limits.{frames, intervals}
 use Rattle.measure.specs.declared.Judged.{Judged}
 use Rattle.measure.proofs.Judging.{ofTaken, judged-full, judged-number, judged-flag, judged-taken, end-fits}
 use borrow.Author.Needs.{needs}

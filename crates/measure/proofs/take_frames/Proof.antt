@@ -6,8 +6,8 @@ use Prim.Native.Nat.{ℕ, _+_, _-_, _≤_}
 use native.Mathlib.Nat.{sub-zero}
 use native.Mathlib.Omega.{arith}
 use borrow.Author.Needs.{needs}
+use Rattle.numbers.specs.Many.{recordAt}
 use Rattle.records.specs.Frame.{frameOf}
-use Rattle.records.specs.Many.{recordAt}
 use Rattle.records.proofs.FrameRecord.{frame-valid}
 use Rattle.measure.specs.Outcome.{framesIn, readsFrom}
 use Rattle.measure.specs.Running.{nothing, takenOf, Small}

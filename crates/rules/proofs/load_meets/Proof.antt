@@ -1,7 +1,7 @@
 -- `rules::load_meets` meets its contract. The first three rules bound what the last two multiply; where one of them fails, all does.
 use borrow.Author.Needs.{needs}
 use borrow.Author.Tests.{le-leb, lt-leb}
-use Rattle.records.specs.Limits.{intervals, frames, largestDelay}
+use Rattle.numbers.specs.Limits.{intervals, frames, largestDelay}
 use Rattle.rules.specs.Meets.{loadMeets}
 use Rattle.rules.proofs.load_meets.Statement.{statement}
 use Rattle.rules.proofs.load_meets.Tie as tie

@@ -1,6 +1,6 @@
 -- `rules::product` meets its contract: the product of two numbers of 32 bits fits 64.
 use borrow.Author.Needs.{needs}
-use Rattle.records.proofs.Products.{product-fits}
+use Rattle.numbers.proofs.Products.{product-fits}
 use Rattle.rules.proofs.product.Statement.{statement}
 use Rattle.rules.proofs.product.Tie as tie
 

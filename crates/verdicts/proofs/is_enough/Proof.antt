@@ -1,8 +1,8 @@
 -- `verdicts::is_enough`: both sides are products of two numbers of 32 bits.
 use borrow.Author.Needs.{needs}
 use native.Mathlib.Omega.{arith}
-use Rattle.records.specs.Limits.{intervals, million}
-use Rattle.records.proofs.Products.{product-fits}
+use Rattle.numbers.specs.Limits.{intervals, million}
+use Rattle.numbers.proofs.Products.{product-fits}
 use Rattle.verdicts.specs.Verdicts.{enough}
 use Rattle.verdicts.proofs.is_enough.Statement.{statement}
 use Rattle.verdicts.proofs.is_enough.Tie as tie

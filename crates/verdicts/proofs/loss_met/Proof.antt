@@ -2,7 +2,7 @@
 use borrow.Author.Needs.{needs}
 use Prim.Native.Nat.{_*_}
 use native.Mathlib.Omega.{arith}
-use Rattle.records.specs.Limits.{intervals, frames, million}
+use Rattle.numbers.specs.Limits.{intervals, frames, million}
 use Rattle.rule.proofs.Products.{product-below}
 use Rattle.verdicts.specs.Verdicts.{lossMet}
 use Rattle.verdicts.proofs.loss_met.Statement.{statement}

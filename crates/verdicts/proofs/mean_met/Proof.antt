@@ -2,7 +2,7 @@
 use borrow.Author.Needs.{needs}
 use Prim.Native.Nat.{_*_}
 use native.Mathlib.Omega.{arith}
-use Rattle.records.specs.Limits.{intervals, frames, largestDelay}
+use Rattle.numbers.specs.Limits.{intervals, frames, largestDelay}
 use Rattle.rule.proofs.Products.{product-below}
 use Rattle.verdicts.specs.Verdicts.{meanMet}
 use Rattle.verdicts.proofs.mean_met.Statement.{statement}

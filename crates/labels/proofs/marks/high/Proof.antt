@@ -1,7 +1,7 @@
 -- `labels::marks::high`: C and U of valid settings are below a million, so no product is too large.
 use borrow.Author.Needs.{needs}
 use native.Mathlib.Omega.{arith}
-use Rattle.records.specs.Limits.{million}
+use Rattle.numbers.specs.Limits.{million}
 use Rattle.records.proofs.SettingsRecord.{label-valid}
 use Rattle.labels.proofs.marks.high.Statement.{statement}
 use Rattle.labels.proofs.marks.high.Tie as tie

@@ -4,7 +4,7 @@ use mathlib.Core.Path.{sym, _∙_}
 use Prim.Native.Nat.{_+_, _*_, _≤_}
 use native.Mathlib.Omega.{arith}
 use lib.ListN.{length, length-take, length-drop}
-use Rattle.records.proofs.Window.{room-within}
+use Rattle.numbers.proofs.Window.{room-within}
 use Rattle.labels.proofs.Placing.{labels-placed}
 use Rattle.labels.proofs.stretch.write_at.Statement.{statement}
 use Rattle.labels.proofs.stretch.write_at.Tie as tie

@@ -3,7 +3,7 @@
 use mathlib.Core.Path.{refl, sym, _∙_}
 use Rattle.layout.specs.Reading.{wordsMeet}
 use borrow.Author.Tests.{ne-eqb}
-use Rattle.records.specs.Bytes.{numberAt}
+use Rattle.numbers.specs.Bytes.{numberAt}
 use borrow.Author.Needs.{needs}
 use Rattle.layout.proofs.reading.words_meet.Statement.{statement}
 use Rattle.layout.proofs.reading.words_meet.Tie as tie

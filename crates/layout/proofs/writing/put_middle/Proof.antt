@@ -2,8 +2,8 @@
 -- Assumes nothing.
 use Rattle.layout.proofs.Laying.{piece, laid-joined}
 use mathlib.Core.List.{[], _∷_}
-use Rattle.records.proofs.Numbers.{length-bytes}
-use Rattle.records.specs.Bytes.{bytesOf}
+use Rattle.numbers.proofs.Numbers.{length-bytes}
+use Rattle.numbers.specs.Bytes.{bytesOf}
 use Rattle.layout.specs.Bytes.{labelWord, figuresBytes, middleBytes}
 use Rattle.layout.proofs.Sizes.{size-figures}
 use borrow.Author.Needs.{needs}

@@ -7,11 +7,11 @@ use Prim.Native.Nat.{ℕ}
 use lib.Dec.{leb, eqb}
 use lib.ListN.{length, getD}
 use borrow.Author.Tests.{eq-eqb, ne-eqb}
-use Rattle.records.specs.Bytes.{numberAt, areZero}
+use Rattle.numbers.specs.Bytes.{numberAt, areZero}
+use Rattle.numbers.specs.Limits.{largestDelay}
+use Rattle.numbers.proofs.Words.{flag-number}
 use Rattle.records.specs.Frame.{frameIn, frameRules, frameOf, validIf}
-use Rattle.records.specs.Limits.{largestDelay}
 use Rattle.records.specs.declared.frame.Frame.{Frame}
-use Rattle.records.proofs.Words.{flag-number}
 use borrow.Author.Needs.{needs}
 use Rattle.records.proofs.frame.read.Statement.{statement}
 use Rattle.records.proofs.frame.read.Tie as tie

@@ -1,8 +1,8 @@
 -- `records::interval::counts_meet` meets its contract: it is the rules, one after the other.
 -- Assumes nothing.
 use mathlib.Core.Path.{refl}
+use Rattle.numbers.specs.Limits.{intervals, frames}
 use Rattle.records.specs.Interval.{countRules, countsMeet}
-use Rattle.records.specs.Limits.{intervals, frames}
 use borrow.Author.Needs.{needs}
 use Rattle.records.proofs.interval.counts_meet.Statement.{statement}
 use Rattle.records.proofs.interval.counts_meet.Tie as tie

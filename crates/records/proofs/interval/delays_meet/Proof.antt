@@ -5,8 +5,8 @@ use mathlib.Core.Path.{_≡_, refl}
 use mathlib.Core.Bool.{_&&_, _||_, not, cond, and-false}
 use Prim.Native.Nat.{ℕ, zero, suc, _-_, _*_}
 use lib.Dec.{leb, eqb, leb·zero, leb·suc-zero, eqb·suc-zero}
+use Rattle.numbers.specs.Limits.{largestDelay}
 use Rattle.records.specs.Interval.{delayRules, delaysMeet, noDelayRules}
-use Rattle.records.specs.Limits.{largestDelay}
 use borrow.Author.Needs.{needs}
 use Rattle.records.proofs.interval.delays_meet.Statement.{statement}
 use Rattle.records.proofs.interval.delays_meet.Tie as tie

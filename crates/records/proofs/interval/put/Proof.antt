@@ -1,7 +1,7 @@
 -- `records::interval::put` meets its contract: the counts and what stands behind them are the record.
 -- Assumes nothing.
 use mathlib.Core.Path.{refl}
-use Rattle.records.specs.Bytes.{bytesOf}
+use Rattle.numbers.specs.Bytes.{bytesOf}
 use Rattle.records.specs.Interval.{countBytes, delayBytes, intervalBytes}
 use borrow.Author.Needs.{needs}
 use Rattle.records.proofs.interval.put.Statement.{statement}

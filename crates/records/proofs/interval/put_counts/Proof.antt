@@ -1,7 +1,7 @@
 -- `records::interval::put_counts` meets its contract: six numbers put one behind the other are their bytes put at once.
 -- Assumes nothing.
 use mathlib.Core.Path.{refl}
-use Rattle.records.specs.Bytes.{bytesOf}
+use Rattle.numbers.specs.Bytes.{bytesOf}
 use Rattle.records.specs.Interval.{countBytes}
 use borrow.Author.Needs.{needs}
 use Rattle.records.proofs.interval.put_counts.Statement.{statement}

@@ -7,10 +7,10 @@ use Prim.Native.Nat.{ℕ}
 use lib.Dec.{leb, eqb}
 use lib.ListN.{length, getD}
 use borrow.Author.Tests.{eq-eqb, ne-eqb}
-use Rattle.records.specs.Bytes.{numberAt, areZero}
+use Rattle.numbers.specs.Bytes.{numberAt, areZero}
+use Rattle.numbers.proofs.Words.{flag-number}
 use Rattle.records.specs.Interval.{intervalIn, countsMeet, delaysMeet, intervalRules, intervalOf, validIf}
 use Rattle.records.specs.declared.interval.Interval.{Interval}
-use Rattle.records.proofs.Words.{flag-number}
 use borrow.Author.Needs.{needs}
 use Rattle.records.proofs.interval.read.Statement.{statement}
 use Rattle.records.proofs.interval.read.Tie as tie

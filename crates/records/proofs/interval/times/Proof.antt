@@ -1,6 +1,6 @@
 -- `records::interval::times` meets its contract: the product of two numbers of 32 bits fits 64.
 -- Assumes nothing.
-use Rattle.records.proofs.Products.{product-fits}
+use Rattle.numbers.proofs.Products.{product-fits}
 use borrow.Author.Needs.{needs}
 use Rattle.records.proofs.interval.times.Statement.{statement}
 use Rattle.records.proofs.interval.times.Tie as tie

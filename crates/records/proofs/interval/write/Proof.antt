@@ -4,8 +4,8 @@ use mathlib.Core.Path.{sym, _∙_}
 use native.Mathlib.Omega.{arith}
 use Prim.Native.Nat.{_+_, _≤_}
 use lib.ListN.{length}
+use Rattle.numbers.proofs.Window.{room-within, part-placed, wrote, kept}
 use Rattle.records.specs.Interval.{intervalBytes}
-use Rattle.records.proofs.Window.{room-within, part-placed, wrote, kept}
 use Rattle.records.proofs.IntervalRecord.{length-interval}
 use borrow.Author.Needs.{needs}
 use Rattle.records.proofs.interval.write.Statement.{statement}

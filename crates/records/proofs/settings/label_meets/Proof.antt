@@ -1,8 +1,8 @@
 -- `records::settings::label_meets` meets its contract: it is the rules, one after the other.
 -- Assumes nothing.
 use mathlib.Core.Path.{refl}
+use Rattle.numbers.specs.Limits.{largestDelay, million}
 use Rattle.records.specs.Settings.{labelRules, labelMeets}
-use Rattle.records.specs.Limits.{largestDelay, million}
 use Rattle.records.proofs.settings.label_meets.Statement.{statement}
 use Rattle.records.proofs.settings.label_meets.Tie as tie
 

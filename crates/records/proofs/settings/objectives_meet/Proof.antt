@@ -1,8 +1,8 @@
 -- `records::settings::objectives_meet` meets its contract: it is the rules, one after the other.
 -- Assumes nothing.
 use mathlib.Core.Path.{refl}
+use Rattle.numbers.specs.Limits.{largestDelay, million}
 use Rattle.records.specs.Settings.{objectiveRules, objectivesMeet}
-use Rattle.records.specs.Limits.{largestDelay, million}
 use Rattle.records.proofs.settings.objectives_meet.Statement.{statement}
 use Rattle.records.proofs.settings.objectives_meet.Tie as tie
 

@@ -1,7 +1,7 @@
 -- `records::settings::put_label` meets its contract: the two halves are the label settings.
 -- Assumes nothing.
 use mathlib.Core.Path.{refl}
-use Rattle.records.specs.Bytes.{bytesOf}
+use Rattle.numbers.specs.Bytes.{bytesOf}
 use Rattle.records.specs.Settings.{shapeBytes, thresholdBytes, labelBytes}
 use borrow.Author.Needs.{needs}
 use Rattle.records.proofs.settings.put_label.Statement.{statement}

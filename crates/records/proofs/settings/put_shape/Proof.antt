@@ -1,7 +1,7 @@
 -- `records::settings::put_shape` meets its contract: values put one behind the other are their bytes put at once.
 -- Assumes nothing.
 use mathlib.Core.Path.{refl}
-use Rattle.records.specs.Bytes.{bytesOf}
+use Rattle.numbers.specs.Bytes.{bytesOf}
 use Rattle.records.specs.Settings.{shapeBytes}
 use borrow.Author.Needs.{needs}
 use Rattle.records.proofs.settings.put_shape.Statement.{statement}

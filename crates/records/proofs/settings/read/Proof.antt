@@ -4,7 +4,7 @@ use mathlib.Core.List.{List}
 use Prim.Native.Nat.{ℕ}
 use lib.Dec.{eqb}
 use lib.ListN.{length, getD}
-use Rattle.records.specs.Bytes.{numberAt}
+use Rattle.numbers.specs.Bytes.{numberAt}
 use Rattle.records.specs.declared.settings.LabelSettings.{LabelSettings}
 use Rattle.records.specs.declared.settings.Settings.{Settings}
 -- `records::settings::read` meets its contract: the length, then the rules over the values read.

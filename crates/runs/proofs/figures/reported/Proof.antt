@@ -1,7 +1,7 @@
 -- `runs::figures::reported` meets its contract: the least delay by whether all that was sent was lost.
 use borrow.Author.Needs.{needs}
 use borrow.Author.Tests.{eq-eqb, ne-eqb}
-use Rattle.records.specs.Limits.{largestDelay}
+use Rattle.numbers.specs.Limits.{largestDelay}
 use Rattle.runs.specs.Figures.{reported}
 use Rattle.runs.proofs.figures.reported.Statement.{statement}
 use Rattle.runs.proofs.figures.reported.Tie as tie

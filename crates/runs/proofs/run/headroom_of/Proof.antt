@@ -1,7 +1,7 @@
 -- `runs::run::headroom_of` meets its contract, by whether a frame was delivered.
 use borrow.Author.Needs.{needs}
 use borrow.Author.Tests.{eq-eqb, ne-eqb}
-use Rattle.records.specs.Limits.{largestDelay}
+use Rattle.numbers.specs.Limits.{largestDelay}
 use Rattle.runs.specs.Runs.{headroomOf}
 use Rattle.runs.proofs.run.headroom_of.Statement.{statement}
 use Rattle.runs.proofs.run.headroom_of.Tie as tie

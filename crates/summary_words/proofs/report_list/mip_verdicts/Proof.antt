@@ -2,8 +2,8 @@
 use mathlib.Core.Path.{sym, _∙_}
 use borrow.Author.Needs.{needs}
 use native.Mathlib.Omega.{arith}
-use Rattle.records.specs.Limits.{pairs}
-use Rattle.reports.proofs.Places.{verdicts-place}
+use Rattle.numbers.specs.Limits.{pairs}
+use Rattle.sets.proofs.Places.{verdicts-place}
 use Rattle.summary_words.proofs.Judged.{verdicts-settings, verdicts-none, verdicts-many, verdicts-length, verdicts-short, verdicts-refused, verdicts-answered}
 use Rattle.summary_words.proofs.report_list.mip_verdicts.Statement.{statement}
 use Rattle.summary_words.proofs.report_list.mip_verdicts.Tie as tie

@@ -1,0 +1,168 @@
+// Making the summary of a stretch, in one pass over its records. A segment, the records in a row in which neither mark changes, is one run
+// for both tracks; only where a mark changes is it put behind them.
+use labels::marks;
+use labels::marks::Both;
+use numbers::limits;
+use numbers::many;
+use numbers::many::Counted;
+use numbers::refusal::Fault;
+use numbers::refusal::Refusal;
+use numbers::room;
+use records::interval;
+use records::interval::Interval;
+use records::interval::IntervalRead;
+use records::settings;
+use records::settings::LabelSettings;
+use records::settings::SettingsRead;
+use runs::run;
+use runs::run::Edges;
+use runs::run::Run;
+use summaries::Summary;
+use tracks::Track;
+ghost use mathlib.Core.Path.{_≡_};
+ghost use mathlib.Core.Bool.{true};
+ghost use Prim.Native.Nat.{_+_, _-_, _≤_};
+ghost use Rattle.numbers.specs.Limits.{intervals};
+ghost use Rattle.numbers.specs.Refusals.{refusal};
+ghost use Rattle.records.specs.Sequence.{readsFrom};
+ghost use Rattle.records.specs.Settings.{labelMeets};
+ghost use Rattle.tallies.specs.Seen.{markedAs};
+ghost use Rattle.runs.specs.Runs.{single};
+ghost use Rattle.making.specs.Making.{gathered, onwards, toned, Begun, Outcome};
+
+// A summary, or why there is none.
+pub enum Gathered {
+    Good(Summary),
+    Bad(Refusal),
+}
+
+pub enum Made {
+    Written,
+    Refused(Refusal),
+}
+
+// The run of one interval.
+fn run_of(mark: bool, v: Interval) -> Run
+    ensures { λ r. ⌜ r ≡ single (markedAs mark v) ⌝ }
+{
+    run::single(rules::marked(mark, v))
+}
+
+// A segment, kept as a run of high marks, as the run of a track that has this mark in it.
+fn toned(mark: bool, g: Run) -> Run
+    ensures { λ r. ⌜ r ≡ toned mark g ⌝ }
+{
+    let load = g.load;
+    let edges = if mark { g.edges } else { Edges::Split(0, 0, 0) };
+    Run {
+        mark,
+        len: g.len,
+        load,
+        edges,
+    }
+}
+
+fn bad(fault: Fault, place: u64) -> Gathered
+    ensures { λ r. ⌜ r ≡ Gathered.Bad (refusal fault place) ⌝ }
+{
+    Gathered::Bad(Refusal { fault, place })
+}
+
+// The summary of the `n` records of `s`, the first of which has these marks and is the segment `start`; or the first record that is at fault.
+fn go_on(l: LabelSettings, s: &[u8], n: usize, first: u32, start: Run, begun: Both) -> Gathered
+    requires { ⌜ Begun l first start ⌝ }
+    ensures { λ r. ⌜ r ≡ onwards l first (first + 1) 1 (Track.One (toned (begun .loss) start)) (Track.One (toned (begun .composite) start)) (readsFrom (n - 1) (now (s .entry)) 1) ⌝ }
+{
+    let w = l.n as u32;
+    let p = l.p as u32;
+    let mut loss = Track::Nothing;
+    let mut composite = Track::Nothing;
+    let mut segment = start;
+    let mut high = begun;
+    let mut next = first + 1;
+    let mut k: usize = 1;
+    while k < n {
+        let IntervalRead::Valid(v) = interval::read_at(s, k) else {
+            return bad(Fault::Field, k as u64);
+        };
+        if v.number != next {
+            return bad(Fault::Order, k as u64);
+        }
+        let x = run_of(true, v);
+        let m = marks::marks(l, v);
+        if (m.loss == high.loss) & (m.composite == high.composite) {
+            segment = run::glue(p, segment, x);
+        } else {
+            loss = tracks::push(w, p, loss, toned(high.loss, segment));
+            composite = tracks::push(w, p, composite, toned(high.composite, segment));
+            segment = x;
+            high = m;
+        }
+        next += 1;
+        k += 1;
+    }
+    Gathered::Good(Summary {
+        first,
+        after: next,
+        label: l,
+        loss: tracks::push(w, p, loss, toned(high.loss, segment)),
+        composite: tracks::push(w, p, composite, toned(high.composite, segment)),
+    })
+}
+
+// The summary of the records of `s`, or the first record that is at fault.
+pub fn gather(l: LabelSettings, s: &[u8], first: u32) -> Gathered
+    requires { ⌜ (labelMeets l ≡ true) × (first ≤ intervals) ⌝ }
+    ensures { λ r. ⌜ r ≡ gathered l first (now (s .entry)) ⌝ }
+{
+    let n = s.len() / 48;
+    if n == 0 {
+        return Gathered::Good(Summary {
+            first,
+            after: first,
+            label: l,
+            loss: Track::Nothing,
+            composite: Track::Nothing,
+        });
+    }
+    let IntervalRead::Valid(v) = interval::read_at(s, 0) else {
+        return bad(Fault::Field, 0);
+    };
+    if v.number != first {
+        return bad(Fault::Order, 0);
+    }
+    go_on(l, s, n, first, run_of(true, v), marks::marks(l, v))
+}
+
+fn refused(fault: Fault) -> Made
+    ensures { λ r. ⌜ r ≡ Made.Refused (refusal fault 0) ⌝ }
+{
+    Made::Refused(Refusal { fault, place: 0 })
+}
+
+// The summary of the records, written into 1,024 bytes of `out` from `at` on, or the refusal that goes before all others.
+pub fn summary(settings: &[u8], first: u64, intervals: &[u8], out: &mut [u8], at: usize) -> Made
+    ensures { λ r. ⌜ Outcome (now (settings .entry)) first (now (intervals .entry)) (now (out .entry)) at r (now (out .exit)) ⌝ }
+{
+    let SettingsRead::Valid(v) = settings::read(settings) else {
+        return refused(Fault::Settings);
+    };
+    let Counted::Whole(_) = many::count(intervals.len(), 48) else {
+        return refused(Fault::Length);
+    };
+    if !room::has_room(out.len(), at, 1024) {
+        return refused(Fault::Room);
+    }
+    if (limits::INTERVALS as u64) < first {
+        return refused(Fault::Field);
+    }
+    let l = v.label;
+    let made = gather(l, intervals, first as u32);
+    match made {
+        Gathered::Good(x) => {
+            summaries::put(&mut out[at..at + 1024], x);
+            Made::Written
+        }
+        Gathered::Bad(r) => Made::Refused(r),
+    }
+}

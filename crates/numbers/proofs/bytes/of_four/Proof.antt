@@ -1,0 +1,34 @@
+-- `numbers::bytes::of_four` meets its contract: the number of four bytes, multiplied out.
+-- Assumes nothing.
+use native.Mathlib.Omega.{arith}
+use Rattle.numbers.specs.Bytes.{number}
+use borrow.Author.Needs.{needs}
+use Rattle.numbers.proofs.bytes.of_four.Statement.{statement}
+use Rattle.numbers.proofs.bytes.of_four.Tie as tie
+
+mul-result : tie.Need-mul-result
+mul-result c = search needs
+
+add-result : tie.Need-add-result
+add-result c = search needs
+
+mul-result-2 : tie.Need-mul-result-2
+mul-result-2 c = search needs
+
+add-result-2 : tie.Need-add-result-2
+add-result-2 c = search needs
+
+mul-result-3 : tie.Need-mul-result-3
+mul-result-3 c = search needs
+
+add-result-3 : tie.Need-add-result-3
+add-result-3 c = search needs
+
+returns : tie.Need-returns
+unfolding number
+returns c = omega arith
+
+pub of-four-spec : {M : Type 1} → statement M
+of-four-spec =
+    tie.close
+    (tie.spec mul-result add-result mul-result-2 add-result-2 mul-result-3 add-result-3 returns)
