@@ -13,16 +13,16 @@ use Rattle.numbers.specs.Limits.{delays, largestDelay, million}
 use Rattle.numbers.specs.Refusals.{refusal}
 use Rattle.numbers.specs.declared.refusal.Fault.{Fault}
 use Rattle.numbers.specs.declared.refusal.Refusal.{Refusal}
-use Rattle.records.specs.Settings.{settingsOf}
-use Rattle.records.specs.declared.settings.Settings.{Settings}
-use Rattle.records.specs.declared.settings.SettingsRead.{SettingsRead}
+use Rattle.settings.specs.Settings.{settingsOf}
+use Rattle.settings.specs.declared.Settings.{Settings}
+use Rattle.settings.specs.declared.SettingsRead.{SettingsRead}
+use Rattle.percentile.specs.Percentile.{atMost, keep, least, percentile, range, placeAbove}
+use Rattle.percentile.specs.Ranks.{Ranked}
+use Rattle.percentile.proofs.Counts.{count-le}
+use Rattle.percentile.proofs.Percentile.{least-below, listed-here, ranked-percentile}
+use Rattle.percentile.proofs.Place.{place-all, place-some, place-le}
 use Rattle.delays.specs.Outcome.{Rank, answered, pick, judged, withSettings, outcome}
-use Rattle.delays.specs.Percentile.{atMost, keep, least, percentile, range, placeAbove}
-use Rattle.delays.specs.Ranks.{Ranked}
 use Rattle.delays.specs.declared.Outcome.{Outcome}
-use Rattle.delays.proofs.Counts.{count-le}
-use Rattle.delays.proofs.Percentile.{least-below, listed-here, ranked-percentile}
-use Rattle.delays.proofs.Place.{place-all, place-some, place-le}
 
 -- a delay of the rank is the percentile, and less the least delay the range
 module _ (pr : ℕ) (xs : List ℕ) (k d : ℕ) (most : pr ≤ million) (asked : Rank pr (length xs) k) (found : Ranked k xs d) where

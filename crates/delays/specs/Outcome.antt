@@ -7,10 +7,10 @@ use lib.Dec.{leb, ltb}
 use Rattle.numbers.specs.Limits.{delays, largestDelay, million}
 use Rattle.numbers.specs.Refusals.{refusal}
 use Rattle.numbers.specs.declared.refusal.Fault.{Fault}
-use Rattle.records.specs.Settings.{settingsOf}
-use Rattle.records.specs.declared.settings.Settings.{Settings}
-use Rattle.records.specs.declared.settings.SettingsRead.{SettingsRead}
-use Rattle.delays.specs.Percentile.{percentile, range, placeAbove}
+use Rattle.settings.specs.Settings.{settingsOf}
+use Rattle.settings.specs.declared.Settings.{Settings}
+use Rattle.settings.specs.declared.SettingsRead.{SettingsRead}
+use Rattle.percentile.specs.Percentile.{percentile, range, placeAbove}
 use Rattle.delays.specs.declared.Outcome.{Outcome}
 
 -- k is the least number with Pr × N ≤ 1,000,000 × k.

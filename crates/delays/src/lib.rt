@@ -1,17 +1,14 @@
 // Percentile delay and range over a lent list of delays. The list is read, and neither sorted, copied nor changed.
-mod few;
-mod table;
-
 use numbers::limits;
 use numbers::refusal::Fault;
 use numbers::refusal::Refusal;
-use records::settings;
-use records::settings::Settings;
-use records::settings::SettingsRead;
+use percentile::few;
+use settings::Settings;
+use settings::SettingsRead;
 ghost use mathlib.Core.Path.{_≡_};
 ghost use Prim.Native.Nat.{_<_, _≤_};
 ghost use Rattle.numbers.specs.Limits.{delays, million};
-ghost use Rattle.delays.specs.Percentile.{placeAbove};
+ghost use Rattle.percentile.specs.Percentile.{placeAbove};
 ghost use Rattle.delays.specs.Outcome.{Rank, answered, judged, outcome};
 
 // The percentile delay and the range, in ns, and whether each is at or below its objective.

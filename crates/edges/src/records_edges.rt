@@ -1,13 +1,10 @@
 // The byte-level edges: each field at its limit and one past it, each spare byte set, each length from 0 to twice the record.
 // A 1 is a record that is read, a 0 one that is not.
+use frames::FrameRead;
+use intervals::IntervalRead;
 use numbers::bytes;
 use numbers::many;
-use records::frame;
-use records::frame::FrameRead;
-use records::interval;
-use records::interval::IntervalRead;
-use records::settings;
-use records::settings::SettingsRead;
+use settings::SettingsRead;
 ghost use Prim.Native.Nat.{_≤_};
 
 // A record of each kind stands at the front of 128 bytes.
@@ -39,14 +36,14 @@ fn is_read(kind: u8, s: &[u8]) -> bool {
         };
     }
     if kind == FRAME {
-        let r = frame::read(s);
+        let r = frames::read(s);
         return if let FrameRead::Valid(_) = r {
             true
         } else {
             false
         };
     }
-    let r = interval::read(s);
+    let r = intervals::read(s);
     if let IntervalRead::Valid(_) = r {
         true
     } else {

@@ -10,15 +10,15 @@ use lib.ListN.{length, length-map, length-append}
 use borrow.Author.Tests.{eq-eqb, eqb-true, le-leb}
 use Rattle.numbers.specs.Limits.{intervals}
 use Rattle.numbers.proofs.Rules.{rule-met}
-use Rattle.records.specs.Interval.{intervalOf, intervalRules}
-use Rattle.records.specs.Settings.{labelMeets, settingsOf}
-use Rattle.records.specs.declared.interval.Interval.{Interval}
-use Rattle.records.specs.declared.interval.IntervalRead.{IntervalRead}
-use Rattle.records.specs.declared.settings.LabelSettings.{LabelSettings}
-use Rattle.records.specs.declared.settings.Settings.{Settings}
-use Rattle.records.specs.declared.settings.SettingsRead.{SettingsRead}
-use Rattle.records.proofs.IntervalRecord.{interval-read, interval-valid}
-use Rattle.records.proofs.SettingsRecord.{label-valid}
+use Rattle.settings.specs.Settings.{labelMeets, settingsOf}
+use Rattle.settings.specs.declared.LabelSettings.{LabelSettings}
+use Rattle.settings.specs.declared.Settings.{Settings}
+use Rattle.settings.specs.declared.SettingsRead.{SettingsRead}
+use Rattle.settings.proofs.SettingsRecord.{label-valid}
+use Rattle.intervals.specs.Interval.{intervalOf, intervalRules}
+use Rattle.intervals.specs.declared.Interval.{Interval}
+use Rattle.intervals.specs.declared.IntervalRead.{IntervalRead}
+use Rattle.intervals.proofs.IntervalRecord.{interval-read, interval-valid}
 use Rattle.rule.specs.Evaluator.{fresh, run, Possible, reachable}
 use Rattle.rule.specs.declared.Track.{Track}
 use Rattle.rule.proofs.Labelling.{Settles, steps-settle, run-step}

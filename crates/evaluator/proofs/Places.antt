@@ -8,10 +8,10 @@ use lib.ListN.{length}
 use Rattle.numbers.specs.Refusals.{refusal}
 use Rattle.numbers.specs.declared.refusal.Fault.{Fault}
 use Rattle.numbers.specs.declared.refusal.Refusal.{Refusal}
-use Rattle.records.specs.Interval.{intervalOf}
-use Rattle.records.specs.Settings.{settingsOf}
-use Rattle.records.specs.declared.interval.IntervalRead.{IntervalRead}
-use Rattle.records.specs.declared.settings.SettingsRead.{SettingsRead}
+use Rattle.settings.specs.Settings.{settingsOf}
+use Rattle.settings.specs.declared.SettingsRead.{SettingsRead}
+use Rattle.intervals.specs.Interval.{intervalOf}
+use Rattle.intervals.specs.declared.IntervalRead.{IntervalRead}
 use Rattle.evaluator.specs.Evaluators.{heldOf, fedWith, answerOf, evaluatorMeets, startFrom, startOf, stepWith, stepOf, movedBy, movedOf}
 use Rattle.evaluator.specs.declared.Evaluator.{Evaluator}
 use Rattle.evaluator.specs.declared.Started.{Started}

@@ -11,11 +11,11 @@ use lib.Dec.{leb, ltb}
 use lib.ListN.{getD, length}
 use borrow.Author.Tests.{leb-true, ltb-true, lt-ltb}
 use Rattle.numbers.specs.Limits.{intervals, million, largestDelay}
-use Rattle.records.specs.Interval.{intervalOf}
-use Rattle.records.specs.Settings.{labelMeets}
-use Rattle.records.specs.declared.interval.Interval.{Interval}
-use Rattle.records.specs.declared.interval.IntervalRead.{IntervalRead}
-use Rattle.records.specs.declared.settings.LabelSettings.{LabelSettings}
+use Rattle.settings.specs.Settings.{labelMeets}
+use Rattle.settings.specs.declared.LabelSettings.{LabelSettings}
+use Rattle.intervals.specs.Interval.{intervalOf}
+use Rattle.intervals.specs.declared.Interval.{Interval}
+use Rattle.intervals.specs.declared.IntervalRead.{IntervalRead}
 use Rattle.rule.specs.Evaluator.{reachable}
 use Rattle.evaluator.specs.Evaluators.{labelOf, lossOf, compositeOf, heldOf, evaluatorRules, evaluatorMeets, fitRules, fitsWords, narrowOf, labelRead, heldRead}
 use Rattle.evaluator.specs.declared.Evaluator.{Evaluator}
@@ -24,8 +24,8 @@ use Rattle.evaluator.specs.declared.HeldRead.{HeldRead}
 use Rattle.evaluator.specs.declared.LabelRead.{LabelRead}
 use Rattle.rule.proofs.Reaching.{reached}
 use Rattle.numbers.proofs.Rules.{rule-met}
-use Rattle.records.proofs.IntervalRecord.{interval-valid}
-use Rattle.records.proofs.SettingsRecord.{LabelValid, label-valid}
+use Rattle.settings.proofs.SettingsRecord.{LabelValid, label-valid}
+use Rattle.intervals.proofs.IntervalRecord.{interval-valid}
 
 -- words that fit are not changed by cutting them down
 narrow-same : (e : Evaluator) → fitsWords e ≡ true → narrowOf e ≡ labelOf e

@@ -8,12 +8,12 @@ use Rattle.numbers.specs.Limits.{intervals}
 use Rattle.numbers.specs.Refusals.{refusal}
 use Rattle.numbers.specs.Rules.{allMet}
 use Rattle.numbers.specs.declared.refusal.Fault.{Fault}
-use Rattle.records.specs.Interval.{intervalOf}
-use Rattle.records.specs.Settings.{labelMeets, settingsOf}
-use Rattle.records.specs.declared.interval.Interval.{Interval}
-use Rattle.records.specs.declared.interval.IntervalRead.{IntervalRead}
-use Rattle.records.specs.declared.settings.LabelSettings.{LabelSettings}
-use Rattle.records.specs.declared.settings.SettingsRead.{SettingsRead}
+use Rattle.settings.specs.Settings.{labelMeets, settingsOf}
+use Rattle.settings.specs.declared.LabelSettings.{LabelSettings}
+use Rattle.settings.specs.declared.SettingsRead.{SettingsRead}
+use Rattle.intervals.specs.Interval.{intervalOf}
+use Rattle.intervals.specs.declared.Interval.{Interval}
+use Rattle.intervals.specs.declared.IntervalRead.{IntervalRead}
 use Rattle.rule.specs.Evaluator.{fresh, gain, turn, reachable}
 use Rattle.rule.specs.declared.Track.{Track}
 use Rattle.labels.specs.Marked.{lossMark, compositeMark}

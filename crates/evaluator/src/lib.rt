@@ -1,20 +1,18 @@
 // The running evaluator of a circuit, by value: a few words that the collector keeps, and the step that feeds it the next interval.
+use intervals::Interval;
+use intervals::IntervalRead;
 use labels::marks;
 use numbers::limits;
 use numbers::refusal::Fault;
 use numbers::refusal::Refusal;
-use records::interval;
-use records::interval::Interval;
-use records::interval::IntervalRead;
-use records::settings;
-use records::settings::LabelSettings;
-use records::settings::SettingsRead;
 use rule::Track;
+use settings::LabelSettings;
+use settings::SettingsRead;
 ghost use mathlib.Core.Path.{_≡_};
 ghost use mathlib.Core.Bool.{true};
 ghost use Prim.Native.Nat.{_<_};
 ghost use Rattle.numbers.specs.Limits.{intervals};
-ghost use Rattle.records.specs.Settings.{labelMeets};
+ghost use Rattle.settings.specs.Settings.{labelMeets};
 ghost use Rattle.evaluator.specs.Evaluators.{held, wordOf, which, startOf, stepOf, labelRead, fitsWords, narrowOf, heldRead, fedWith, answerOf, movedTo, movedOf};
 
 // Label settings, the number fed, and each track's label (1 available, 0 not) and number pending. Any words at all may stand here.
@@ -238,7 +236,7 @@ pub fn step(e: Evaluator, r: &[u8]) -> Stepped
             place: 0,
         });
     };
-    let IntervalRead::Valid(v) = interval::read(r) else {
+    let IntervalRead::Valid(v) = intervals::read(r) else {
         return Stepped::Refused(Refusal {
             fault: Fault::Field,
             place: 0,

@@ -11,8 +11,8 @@ use lib.ListN.{length, take, drop, length-append, length-drop, take-append-drop}
 use lib.Seq.{drop-append-le, drop-append-add, take-append-le, length-take-le}
 use Rattle.numbers.specs.Many.{recordAt}
 use Rattle.numbers.proofs.Parts.{record-there, record-missing}
-use Rattle.records.specs.Interval.{intervalOf}
-use Rattle.records.specs.Sequence.{readsFrom, intervalsIn}
+use Rattle.intervals.specs.Interval.{intervalOf}
+use Rattle.intervals.specs.Sequence.{readsFrom, intervalsIn}
 use Rattle.feeding.specs.Feeding.{restOf}
 
 -- the bytes of the whole records of s

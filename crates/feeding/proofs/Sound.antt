@@ -14,11 +14,11 @@ use Rattle.numbers.specs.Many.{recordAt}
 use Rattle.numbers.specs.Refusals.{refusal}
 use Rattle.numbers.specs.declared.refusal.Fault.{Fault}
 use Rattle.numbers.specs.declared.refusal.Refusal.{Refusal}
-use Rattle.records.specs.Interval.{intervalOf}
-use Rattle.records.specs.Sequence.{readsFrom, intervalsIn, checked, orderedIf}
-use Rattle.records.specs.declared.interval.IntervalRead.{IntervalRead}
-use Rattle.records.specs.declared.interval.Sequence.{Sequence}
-use Rattle.records.proofs.IntervalRecord.{interval-valid}
+use Rattle.intervals.specs.Interval.{intervalOf}
+use Rattle.intervals.specs.Sequence.{readsFrom, intervalsIn, checked, orderedIf}
+use Rattle.intervals.specs.declared.IntervalRead.{IntervalRead}
+use Rattle.intervals.specs.declared.Sequence.{Sequence}
+use Rattle.intervals.proofs.IntervalRecord.{interval-valid}
 use Rattle.labels.specs.Stretch.{intervalsOf}
 use Rattle.tallies.proofs.Valid.{AllValid}
 

@@ -10,8 +10,8 @@ use lib.Seq.{take-all, take-length, take-at, length-take-le, take-append-add}
 use borrow.Rule.Slice.PartMut.{putMid, same-len-mid}
 use Rattle.numbers.specs.Refusals.{refusal}
 use Rattle.numbers.specs.declared.refusal.Refusal.{Refusal}
-use Rattle.records.specs.Sequence.{intervalsIn, checked}
-use Rattle.records.specs.declared.interval.Sequence.{Sequence}
+use Rattle.intervals.specs.Sequence.{intervalsIn, checked}
+use Rattle.intervals.specs.declared.Sequence.{Sequence}
 use Rattle.labels.specs.Stretch.{intervalsOf}
 use Rattle.tracks.specs.Tracks.{join, pushAll, summary}
 use Rattle.summaries.specs.declared.Summary.{Summary}

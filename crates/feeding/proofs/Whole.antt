@@ -14,11 +14,11 @@ use lib.Dec.{eqb}
 use Rattle.numbers.specs.Limits.{intervals}
 use Rattle.numbers.specs.Many.{countOf, wholeIf}
 use Rattle.numbers.specs.Room.{hasRoom}
-use Rattle.records.specs.Sequence.{intervalsIn, readsFrom, checked}
-use Rattle.records.specs.Settings.{settingsOf}
-use Rattle.records.specs.declared.interval.Sequence.{Sequence}
-use Rattle.records.specs.declared.settings.LabelSettings.{LabelSettings}
-use Rattle.records.specs.declared.settings.SettingsRead.{SettingsRead}
+use Rattle.settings.specs.Settings.{settingsOf}
+use Rattle.settings.specs.declared.LabelSettings.{LabelSettings}
+use Rattle.settings.specs.declared.SettingsRead.{SettingsRead}
+use Rattle.intervals.specs.Sequence.{intervalsIn, readsFrom, checked}
+use Rattle.intervals.specs.declared.Sequence.{Sequence}
 use Rattle.labels.specs.Stretch.{intervalsOf}
 use Rattle.labels.proofs.Placing.{read-label}
 use Rattle.summaries.specs.Stored.{summaryBytes}

@@ -4,8 +4,7 @@
 use making::Gathered;
 use numbers::refusal::Fault;
 use numbers::refusal::Refusal;
-use records::settings;
-use records::settings::SettingsRead;
+use settings::SettingsRead;
 use summaries::Summary;
 use tracks::Track;
 ghost use mathlib.Core.Path.{_≡_};

@@ -10,8 +10,8 @@ use native.Mathlib.Omega.{arith}
 use Rattle.numbers.specs.Limits.{intervals}
 use Rattle.numbers.specs.Refusals.{refusal}
 use Rattle.numbers.specs.declared.refusal.Fault.{Fault}
-use Rattle.records.specs.declared.settings.Settings.{Settings}
-use Rattle.records.proofs.SettingsRecord.{settings-valid}
+use Rattle.settings.specs.declared.Settings.{Settings}
+use Rattle.settings.proofs.SettingsRecord.{settings-valid}
 use Rattle.tallies.proofs.Valid.{AllValid}
 use Rattle.summaries.specs.Stored.{summaryBytes}
 use Rattle.summaries.specs.declared.Summary.{Summary}

@@ -4,9 +4,9 @@ use mathlib.Core.Path.{_≡_}
 use mathlib.Core.List.{List, []}
 use Rattle.numbers.specs.Refusals.{refusal}
 use Rattle.numbers.specs.declared.refusal.Fault.{Fault}
-use Rattle.records.specs.Settings.{settingsOf}
-use Rattle.records.specs.declared.settings.Settings.{Settings}
-use Rattle.records.specs.declared.settings.SettingsRead.{SettingsRead}
+use Rattle.settings.specs.Settings.{settingsOf}
+use Rattle.settings.specs.declared.Settings.{Settings}
+use Rattle.settings.specs.declared.SettingsRead.{SettingsRead}
 use Rattle.summaries.specs.declared.Summary.{Summary}
 use Rattle.summaries.specs.Made.{madeOf}
 use Rattle.making.specs.Making.{made}

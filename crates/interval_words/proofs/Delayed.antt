@@ -5,15 +5,15 @@ use mathlib.Core.Path.{_≡_, refl, ap, sym, _∙_}
 use native.Mathlib.Omega.{arith}
 use lib.ListN.{length, set, drop}
 use borrow.Author.Tests.{le-leb, lt-leb}
-use Rattle.delays.specs.Outcome.{outcome}
-use Rattle.delays.specs.declared.Figures.{Figures}
-use Rattle.delays.specs.declared.Outcome.{Outcome}
 use Rattle.numbers.specs.Refusals.{refusal}
 use Rattle.numbers.specs.declared.refusal.Fault.{Fault}
 use Rattle.numbers.specs.declared.refusal.Refusal.{Refusal}
-use Rattle.records.specs.Settings.{settingsOf}
-use Rattle.records.specs.declared.settings.Settings.{Settings}
-use Rattle.records.specs.declared.settings.SettingsRead.{SettingsRead}
+use Rattle.settings.specs.Settings.{settingsOf}
+use Rattle.settings.specs.declared.Settings.{Settings}
+use Rattle.settings.specs.declared.SettingsRead.{SettingsRead}
+use Rattle.delays.specs.Outcome.{outcome}
+use Rattle.delays.specs.declared.Figures.{Figures}
+use Rattle.delays.specs.declared.Outcome.{Outcome}
 use Rattle.interval_words.specs.DelayList.{delaysOutcome, wordFor, wordsOf, Answers}
 use Rattle.words.specs.Word.{wordOf}
 

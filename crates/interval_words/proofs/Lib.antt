@@ -1,5 +1,4 @@
--- The laws of this crate that belong to no one function.
+-- The laws of this crate that others cite.
 pub mod Delayed
-pub mod Measured
 pub mod Labelled
-pub mod Stepped
+pub mod Measured

@@ -19,11 +19,11 @@ use Rattle.numbers.specs.Room.{hasRoom}
 use Rattle.numbers.specs.declared.many.Counted.{Counted}
 use Rattle.numbers.specs.declared.refusal.Fault.{Fault}
 use Rattle.numbers.specs.declared.refusal.Refusal.{Refusal}
-use Rattle.records.specs.Settings.{settingsOf}
-use Rattle.records.specs.declared.frame.Frame.{Frame}
-use Rattle.records.specs.declared.frame.FrameRead.{FrameRead}
-use Rattle.records.specs.declared.settings.LabelSettings.{LabelSettings}
-use Rattle.records.specs.declared.settings.SettingsRead.{SettingsRead}
+use Rattle.settings.specs.Settings.{settingsOf}
+use Rattle.settings.specs.declared.LabelSettings.{LabelSettings}
+use Rattle.settings.specs.declared.SettingsRead.{SettingsRead}
+use Rattle.frames.specs.declared.Frame.{Frame}
+use Rattle.frames.specs.declared.FrameRead.{FrameRead}
 use Rattle.interval_words.specs.FrameList.{wordFor, IntervalLeft}
 
 -- the place of a fault, 0 where there is none

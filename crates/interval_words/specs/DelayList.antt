@@ -5,13 +5,13 @@ use mathlib.Core.List.{List, [], _∷_, _++_}
 use mathlib.Core.Path.{_≡_}
 use lib.ListN.{length, drop}
 use lib.Dec.{leb}
+use Rattle.numbers.specs.Refusals.{refusal}
+use Rattle.numbers.specs.declared.refusal.Fault.{Fault}
+use Rattle.settings.specs.Settings.{settingsOf}
+use Rattle.settings.specs.declared.SettingsRead.{SettingsRead}
 use Rattle.delays.specs.Outcome.{judged, pick}
 use Rattle.delays.specs.declared.Figures.{Figures}
 use Rattle.delays.specs.declared.Outcome.{Outcome}
-use Rattle.numbers.specs.Refusals.{refusal}
-use Rattle.numbers.specs.declared.refusal.Fault.{Fault}
-use Rattle.records.specs.Settings.{settingsOf}
-use Rattle.records.specs.declared.settings.SettingsRead.{SettingsRead}
 use Rattle.words.specs.Word.{wordOf}
 
 abbrev pub withRoom : SettingsRead → List ℕ → List ℕ → Outcome

@@ -5,8 +5,8 @@ use mathlib.Core.List.{List, _++_, map, map-append}
 use Prim.Native.Nat.{ℕ, _+_, _-_}
 use native.Mathlib.Nat.{add-assoc}
 use lib.ListN.{length, length-append}
-use Rattle.records.specs.declared.interval.Interval.{Interval}
-use Rattle.records.specs.declared.settings.LabelSettings.{LabelSettings}
+use Rattle.settings.specs.declared.LabelSettings.{LabelSettings}
+use Rattle.intervals.specs.declared.Interval.{Interval}
 use Rattle.tallies.specs.Seen.{lossSeen, compositeSeen}
 use Rattle.tracks.specs.Tracks.{summary}
 use Rattle.tracks.proofs.Joining.{summary-append}

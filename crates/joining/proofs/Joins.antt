@@ -11,8 +11,8 @@ use borrow.Author.Tests.{eq-eqb}
 use Rattle.numbers.specs.Bytes.{placed}
 use Rattle.numbers.specs.Room.{hasRoom}
 use Rattle.numbers.specs.declared.refusal.Fault.{Fault}
-use Rattle.records.specs.Settings.{sameLabel}
-use Rattle.records.proofs.SettingsRecord.{same-label-self}
+use Rattle.settings.specs.Settings.{sameLabel}
+use Rattle.settings.proofs.SettingsRecord.{same-label-self}
 use Rattle.tracks.specs.Tracks.{join, countIn}
 use Rattle.tracks.specs.Valid.{TrackValid}
 use Rattle.tracks.specs.declared.Track.{Track}

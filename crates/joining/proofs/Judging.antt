@@ -11,8 +11,8 @@ use Rattle.numbers.specs.Bytes.{placed}
 use Rattle.numbers.specs.Refusals.{refusal}
 use Rattle.numbers.specs.Room.{hasRoom}
 use Rattle.numbers.specs.declared.refusal.Fault.{Fault}
-use Rattle.records.specs.Settings.{sameLabel}
-use Rattle.records.specs.declared.settings.LabelSettings.{LabelSettings}
+use Rattle.settings.specs.Settings.{sameLabel}
+use Rattle.settings.specs.declared.LabelSettings.{LabelSettings}
 use Rattle.tracks.specs.Valid.{JoinFits, TrackValid}
 use Rattle.tracks.specs.declared.Track.{Track}
 use Rattle.summaries.specs.Stored.{summaryOf, summaryBytes}

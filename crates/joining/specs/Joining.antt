@@ -10,7 +10,7 @@ use Rattle.numbers.specs.Refusals.{refusal}
 use Rattle.numbers.specs.Room.{hasRoom}
 use Rattle.numbers.specs.declared.refusal.Fault.{Fault}
 use Rattle.numbers.specs.declared.refusal.Refusal.{Refusal}
-use Rattle.records.specs.Settings.{sameLabel}
+use Rattle.settings.specs.Settings.{sameLabel}
 use Rattle.tracks.specs.Tracks.{join}
 use Rattle.summaries.specs.Stored.{summaryOf, summaryBytes}
 use Rattle.summaries.specs.declared.Summary.{Summary}

@@ -2,7 +2,6 @@
 use numbers::refusal::Fault;
 use numbers::refusal::Refusal;
 use numbers::room;
-use records::settings;
 use summaries::Summary;
 use summaries::SummaryRead;
 ghost use mathlib.Core.Path.{_≡_};

@@ -5,10 +5,10 @@ use mathlib.Core.List.{List, [], _∷_, map}
 use Prim.Native.Nat.{ℕ, zero, suc, _+_, _*_, _≤_, _<_}
 use native.Mathlib.Omega.{arith}
 use lib.ListN.{length, getD, length-map}
-use Rattle.records.specs.Settings.{labelMeets}
-use Rattle.records.specs.declared.interval.Interval.{Interval}
-use Rattle.records.specs.declared.settings.LabelSettings.{LabelSettings}
-use Rattle.records.proofs.SettingsRecord.{label-valid}
+use Rattle.settings.specs.Settings.{labelMeets}
+use Rattle.settings.specs.declared.LabelSettings.{LabelSettings}
+use Rattle.settings.proofs.SettingsRecord.{label-valid}
+use Rattle.intervals.specs.declared.Interval.{Interval}
 use Rattle.rule.specs.Evaluator.{labelling}
 use Rattle.rule.specs.Labels.{Label, undecided, Meaning}
 use Rattle.rule.proofs.Labelling.{labels-settle, labels-length, meaning-one}

@@ -14,14 +14,14 @@ use Rattle.numbers.specs.Room.{hasRoom}
 use Rattle.numbers.specs.declared.many.Counted.{Counted}
 use Rattle.numbers.specs.declared.refusal.Fault.{Fault}
 use Rattle.numbers.specs.declared.refusal.Refusal.{Refusal}
-use Rattle.records.specs.Interval.{intervalOf}
-use Rattle.records.specs.Sequence.{readsFrom, intervalsIn, checked, orderedIf}
-use Rattle.records.specs.Settings.{settingsOf}
-use Rattle.records.specs.declared.interval.IntervalRead.{IntervalRead}
-use Rattle.records.specs.declared.interval.Sequence.{Sequence}
-use Rattle.records.specs.declared.settings.LabelSettings.{LabelSettings}
-use Rattle.records.specs.declared.settings.SettingsRead.{SettingsRead}
-use Rattle.records.proofs.IntervalRecord.{interval-valid}
+use Rattle.settings.specs.Settings.{settingsOf}
+use Rattle.settings.specs.declared.LabelSettings.{LabelSettings}
+use Rattle.settings.specs.declared.SettingsRead.{SettingsRead}
+use Rattle.intervals.specs.Interval.{intervalOf}
+use Rattle.intervals.specs.Sequence.{readsFrom, intervalsIn, checked, orderedIf}
+use Rattle.intervals.specs.declared.IntervalRead.{IntervalRead}
+use Rattle.intervals.specs.declared.Sequence.{Sequence}
+use Rattle.intervals.proofs.IntervalRecord.{interval-valid}
 use Rattle.labels.specs.Stretch.{whenChecked, whenCounted, whenRead, labelsOf}
 use Rattle.labels.specs.declared.stretch.Labelled.{Labelled}
 

@@ -12,14 +12,14 @@ use Rattle.numbers.specs.Bytes.{placed}
 use Rattle.numbers.specs.Many.{countOf, wholeIf}
 use Rattle.numbers.specs.declared.many.Counted.{Counted}
 use Rattle.numbers.proofs.Rules.{rule-met}
-use Rattle.records.specs.Sequence.{intervalsIn, checked}
-use Rattle.records.specs.Settings.{labelMeets, settingsRules, objectivesIn, settingsOf}
-use Rattle.records.specs.declared.interval.Interval.{Interval}
-use Rattle.records.specs.declared.interval.Sequence.{Sequence}
-use Rattle.records.specs.declared.settings.LabelSettings.{LabelSettings}
-use Rattle.records.specs.declared.settings.Settings.{Settings}
-use Rattle.records.specs.declared.settings.SettingsRead.{SettingsRead}
-use Rattle.records.proofs.SettingsRecord.{settings-read}
+use Rattle.settings.specs.Settings.{labelMeets, settingsRules, objectivesIn, settingsOf}
+use Rattle.settings.specs.declared.LabelSettings.{LabelSettings}
+use Rattle.settings.specs.declared.Settings.{Settings}
+use Rattle.settings.specs.declared.SettingsRead.{SettingsRead}
+use Rattle.settings.proofs.SettingsRecord.{settings-read}
+use Rattle.intervals.specs.Sequence.{intervalsIn, checked}
+use Rattle.intervals.specs.declared.Interval.{Interval}
+use Rattle.intervals.specs.declared.Sequence.{Sequence}
 use Rattle.rule.specs.Labels.{Label}
 use Rattle.rule.proofs.Labelling.{labels-length}
 use Rattle.labels.specs.Marked.{lossMark, compositeMark}

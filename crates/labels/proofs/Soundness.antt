@@ -8,11 +8,11 @@ use native.Mathlib.Nat.{add-zero, add-suc, suc-add, zero-add}
 use lib.Dec.{eqb}
 use lib.ListN.{length, getD, length-map}
 use Rattle.numbers.specs.Many.{recordAt}
-use Rattle.records.specs.Interval.{intervalOf}
-use Rattle.records.specs.Sequence.{readsFrom, intervalsIn, checked, orderedIf}
-use Rattle.records.specs.declared.interval.Interval.{Interval}
-use Rattle.records.specs.declared.interval.IntervalRead.{IntervalRead}
-use Rattle.records.specs.declared.interval.Sequence.{Sequence}
+use Rattle.intervals.specs.Interval.{intervalOf}
+use Rattle.intervals.specs.Sequence.{readsFrom, intervalsIn, checked, orderedIf}
+use Rattle.intervals.specs.declared.Interval.{Interval}
+use Rattle.intervals.specs.declared.IntervalRead.{IntervalRead}
+use Rattle.intervals.specs.declared.Sequence.{Sequence}
 use Rattle.labels.specs.Stretch.{intervalsOf}
 
 -- where the number is the next, the rest decides

@@ -8,18 +8,18 @@ use native.Mathlib.Numerals.{add-one}
 use lib.ListN.{length, getD, take, length-map, List·getD-map}
 use lib.Seq.{take-suc, take-all, length-take-le}
 use Rattle.numbers.specs.Many.{recordAt}
-use Rattle.records.specs.Interval.{intervalOf, intervalIn}
-use Rattle.records.specs.Sequence.{intervalsIn, checked}
-use Rattle.records.specs.declared.interval.Interval.{Interval}
-use Rattle.records.specs.declared.interval.IntervalRead.{IntervalRead}
-use Rattle.records.specs.declared.interval.Sequence.{Sequence}
-use Rattle.records.specs.declared.settings.LabelSettings.{LabelSettings}
+use Rattle.settings.specs.declared.LabelSettings.{LabelSettings}
+use Rattle.intervals.specs.Interval.{intervalOf, intervalIn}
+use Rattle.intervals.specs.Sequence.{intervalsIn, checked}
+use Rattle.intervals.specs.declared.Interval.{Interval}
+use Rattle.intervals.specs.declared.IntervalRead.{IntervalRead}
+use Rattle.intervals.specs.declared.Sequence.{Sequence}
 use Rattle.rule.specs.Evaluator.{fresh, gain}
 use Rattle.rule.specs.Labels.{settled}
 use Rattle.rule.specs.declared.Counts.{Counts}
 use Rattle.rule.specs.declared.Track.{Track}
-use Rattle.records.proofs.IntervalRecord.{interval-read}
-use Rattle.records.proofs.SettingsRecord.{label-valid}
+use Rattle.settings.proofs.SettingsRecord.{label-valid}
+use Rattle.intervals.proofs.IntervalRecord.{interval-read}
 use Rattle.rule.proofs.Labelling.{settled-and-pending, pending-short}
 use Rattle.labels.specs.Marked.{countsOf, countsIn, lossMark, compositeMark}
 use Rattle.labels.specs.Stretch.{intervalsOf, labelBytes, labelByte, settledIn, leftIn, bothTurned, bothSettled, bothLeft, Settling, Leaving, Writing}

@@ -4,8 +4,8 @@ use mathlib.Core.List.{List}
 use Prim.Native.Nat.{ℕ}
 use Rattle.numbers.specs.Bytes.{numberAt}
 use Rattle.numbers.specs.Limits.{million}
-use Rattle.records.specs.declared.interval.Interval.{Interval}
-use Rattle.records.specs.declared.settings.LabelSettings.{LabelSettings}
+use Rattle.settings.specs.declared.LabelSettings.{LabelSettings}
+use Rattle.intervals.specs.declared.Interval.{Interval}
 use Rattle.rule.specs.declared.Counts.{Counts}
 use Rattle.rule.specs.Marks.{highLoss, highComposite}
 use Rattle.labels.specs.declared.marks.Both.{Both}

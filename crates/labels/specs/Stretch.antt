@@ -10,13 +10,13 @@ use Rattle.numbers.specs.Refusals.{refusal}
 use Rattle.numbers.specs.Room.{hasRoom}
 use Rattle.numbers.specs.declared.many.Counted.{Counted}
 use Rattle.numbers.specs.declared.refusal.Fault.{Fault}
-use Rattle.records.specs.Sequence.{intervalsIn, checked}
-use Rattle.records.specs.Settings.{labelMeets, settingsOf}
-use Rattle.records.specs.declared.interval.Interval.{Interval}
-use Rattle.records.specs.declared.interval.IntervalRead.{IntervalRead}
-use Rattle.records.specs.declared.interval.Sequence.{Sequence}
-use Rattle.records.specs.declared.settings.LabelSettings.{LabelSettings}
-use Rattle.records.specs.declared.settings.SettingsRead.{SettingsRead}
+use Rattle.settings.specs.Settings.{labelMeets, settingsOf}
+use Rattle.settings.specs.declared.LabelSettings.{LabelSettings}
+use Rattle.settings.specs.declared.SettingsRead.{SettingsRead}
+use Rattle.intervals.specs.Sequence.{intervalsIn, checked}
+use Rattle.intervals.specs.declared.Interval.{Interval}
+use Rattle.intervals.specs.declared.IntervalRead.{IntervalRead}
+use Rattle.intervals.specs.declared.Sequence.{Sequence}
 use Rattle.rule.specs.Evaluator.{gain, turn, labelling}
 use Rattle.rule.specs.Labels.{Label, settled, undecided}
 use Rattle.rule.specs.declared.Counts.{Counts}

@@ -1,13 +1,13 @@
 // The two marks of an interval under label settings: high loss against C, and D against U.
+use intervals::Interval;
 use numbers::bytes;
 use numbers::limits;
 use numbers::many;
-use records::interval::Interval;
-use records::settings::LabelSettings;
 use rule::Counts;
+use settings::LabelSettings;
 ghost use mathlib.Core.Path.{_≡_};
 ghost use Rattle.numbers.specs.Many.{recordAt};
-ghost use Rattle.records.specs.Settings.{labelMeets};
+ghost use Rattle.settings.specs.Settings.{labelMeets};
 ghost use Rattle.labels.specs.Marked.{countsOf, countsIn, bothHigh};
 ghost use mathlib.Core.Bool.{true};
 

@@ -1,24 +1,22 @@
 // The label bytes of a stretch from interval 0. Nothing is written before every record is known to be good. Each label is written
 // once, when it is settled, or as undecided at the end: the work grows with the number of intervals alone.
 use crate::marks;
+use intervals::Sequence;
 use numbers::many;
 use numbers::many::Counted;
 use numbers::refusal::Fault;
 use numbers::refusal::Refusal;
 use numbers::room;
-use records::interval;
-use records::interval::Sequence;
-use records::settings;
-use records::settings::LabelSettings;
-use records::settings::SettingsRead;
 use rule::Counts;
 use rule::Track;
+use settings::LabelSettings;
+use settings::SettingsRead;
 ghost use mathlib.Core.Path.{_≡_};
 ghost use Prim.Native.Nat.{_+_, _-_, _*_, _/_, _≤_, _<_};
 ghost use mathlib.Core.Bool.{true};
 ghost use lib.ListN.{length};
-ghost use Rattle.records.specs.Sequence.{intervalsIn};
-ghost use Rattle.records.specs.Settings.{labelMeets};
+ghost use Rattle.settings.specs.Settings.{labelMeets};
+ghost use Rattle.intervals.specs.Sequence.{intervalsIn};
 ghost use Rattle.rule.specs.Evaluator.{turn};
 ghost use Rattle.rule.specs.Labels.{settled};
 ghost use Rattle.labels.specs.Stretch.{labelByte, labelBytes, intervalsOf, strided, settledIn, bothTurned, bothSettled, bothLeft, Settling, Leaving, Writing, outcome, whenWhole, labelsOf};
@@ -127,7 +125,7 @@ fn write_at(l: LabelSettings, r: &[u8], n: usize, out: &mut [u8], at: usize) -> 
     ensures { λ a. ⌜ outcome a (now (out .exit)) ≡ whenWhole l (now (r .entry)) (now (out .entry)) at n ⌝ }
 {
     if room::has_room(out.len(), at, 2 * n) {
-        if let Sequence::Refused(x) = interval::check(r, 0) {
+        if let Sequence::Refused(x) = intervals::check(r, 0) {
             return Labelled::Refused(x);
         }
         write_labels(l, r, &mut out[at..at + 2 * n]);

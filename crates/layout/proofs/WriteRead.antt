@@ -10,8 +10,8 @@ use native.Mathlib.Omega.{arith}
 use lib.Dec.{leb, eqb}
 use borrow.Author.Tests.{leb-true, eqb-true}
 use Rattle.numbers.specs.Bytes.{numberAt, part, bytesOf, areZero, Bytes}
-use Rattle.numbers.proofs.Numbers.{part-append}
-use Rattle.records.proofs.RoundTrip.{part-bytes, zero-bytes}
+use Rattle.numbers.proofs.Numbers.{part-append, part-bytes}
+use Rattle.numbers.proofs.Zeros.{zero-bytes}
 use Rattle.runs.specs.Figures.{idle, none}
 use Rattle.runs.specs.Middles.{unit}
 use Rattle.layout.specs.Bytes.{loadBytes, figuresBytes, formOf, preOf, innerOf, postOf, shapeBytes, runBytes, labelWord, middleBytes, blankRun, pieceBytes, trackBytes}

@@ -10,12 +10,12 @@ use borrow.Author.Tests.{eq-eqb, ne-eqb}
 use Rattle.numbers.specs.Many.{recordAt}
 use Rattle.numbers.specs.Refusals.{refusal}
 use Rattle.numbers.specs.declared.refusal.Fault.{Fault}
-use Rattle.records.specs.Interval.{intervalOf}
-use Rattle.records.specs.Sequence.{readsFrom, checked}
-use Rattle.records.specs.declared.interval.Interval.{Interval}
-use Rattle.records.specs.declared.interval.IntervalRead.{IntervalRead}
-use Rattle.records.specs.declared.settings.LabelSettings.{LabelSettings}
-use Rattle.records.proofs.Sequences.{reads-all, reads-next, reads-done}
+use Rattle.settings.specs.declared.LabelSettings.{LabelSettings}
+use Rattle.intervals.specs.Interval.{intervalOf}
+use Rattle.intervals.specs.Sequence.{readsFrom, checked}
+use Rattle.intervals.specs.declared.Interval.{Interval}
+use Rattle.intervals.specs.declared.IntervalRead.{IntervalRead}
+use Rattle.intervals.proofs.Sequences.{reads-all, reads-next, reads-done}
 use Rattle.labels.specs.Stretch.{intervalsOf}
 use Rattle.runs.specs.Runs.{single}
 use Rattle.tallies.specs.Seen.{lossSeen, compositeSeen}

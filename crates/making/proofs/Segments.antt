@@ -8,12 +8,12 @@ use Prim.Native.Nat.{ℕ, _+_, _-_, _≤_, _<_}
 use native.Mathlib.Omega.{arith}
 use Rattle.numbers.specs.Limits.{intervals}
 use Rattle.numbers.specs.Many.{recordAt}
-use Rattle.records.specs.Interval.{intervalOf}
-use Rattle.records.specs.Sequence.{readsFrom}
-use Rattle.records.specs.declared.interval.Interval.{Interval}
-use Rattle.records.specs.declared.interval.IntervalRead.{IntervalRead}
-use Rattle.records.specs.declared.settings.LabelSettings.{LabelSettings}
-use Rattle.records.proofs.IntervalRecord.{IntervalValid, interval-valid}
+use Rattle.settings.specs.declared.LabelSettings.{LabelSettings}
+use Rattle.intervals.specs.Interval.{intervalOf}
+use Rattle.intervals.specs.Sequence.{readsFrom}
+use Rattle.intervals.specs.declared.Interval.{Interval}
+use Rattle.intervals.specs.declared.IntervalRead.{IntervalRead}
+use Rattle.intervals.proofs.IntervalRecord.{IntervalValid, interval-valid}
 use Rattle.labels.specs.Marked.{countsOf, lossMark, compositeMark, bothHigh}
 use Rattle.labels.specs.declared.marks.Both.{Both}
 use Rattle.runs.specs.declared.run.Run.{Run}

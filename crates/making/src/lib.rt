@@ -1,5 +1,7 @@
 // Making the summary of a stretch, in one pass over its records. A segment, the records in a row in which neither mark changes, is one run
 // for both tracks; only where a mark changes is it put behind them.
+use intervals::Interval;
+use intervals::IntervalRead;
 use labels::marks;
 use labels::marks::Both;
 use numbers::limits;
@@ -8,15 +10,11 @@ use numbers::many::Counted;
 use numbers::refusal::Fault;
 use numbers::refusal::Refusal;
 use numbers::room;
-use records::interval;
-use records::interval::Interval;
-use records::interval::IntervalRead;
-use records::settings;
-use records::settings::LabelSettings;
-use records::settings::SettingsRead;
 use runs::run;
 use runs::run::Edges;
 use runs::run::Run;
+use settings::LabelSettings;
+use settings::SettingsRead;
 use summaries::Summary;
 use tracks::Track;
 ghost use mathlib.Core.Path.{_≡_};
@@ -24,8 +22,8 @@ ghost use mathlib.Core.Bool.{true};
 ghost use Prim.Native.Nat.{_+_, _-_, _≤_};
 ghost use Rattle.numbers.specs.Limits.{intervals};
 ghost use Rattle.numbers.specs.Refusals.{refusal};
-ghost use Rattle.records.specs.Sequence.{readsFrom};
-ghost use Rattle.records.specs.Settings.{labelMeets};
+ghost use Rattle.settings.specs.Settings.{labelMeets};
+ghost use Rattle.intervals.specs.Sequence.{readsFrom};
 ghost use Rattle.tallies.specs.Seen.{markedAs};
 ghost use Rattle.runs.specs.Runs.{single};
 ghost use Rattle.making.specs.Making.{gathered, onwards, toned, Begun, Outcome};
@@ -82,7 +80,7 @@ fn go_on(l: LabelSettings, s: &[u8], n: usize, first: u32, start: Run, begun: Bo
     let mut next = first + 1;
     let mut k: usize = 1;
     while k < n {
-        let IntervalRead::Valid(v) = interval::read_at(s, k) else {
+        let IntervalRead::Valid(v) = intervals::read_at(s, k) else {
             return bad(Fault::Field, k as u64);
         };
         if v.number != next {
@@ -125,7 +123,7 @@ pub fn gather(l: LabelSettings, s: &[u8], first: u32) -> Gathered
             composite: Track::Nothing,
         });
     }
-    let IntervalRead::Valid(v) = interval::read_at(s, 0) else {
+    let IntervalRead::Valid(v) = intervals::read_at(s, 0) else {
         return bad(Fault::Field, 0);
     };
     if v.number != first {

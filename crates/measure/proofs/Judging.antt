@@ -18,12 +18,12 @@ use Rattle.numbers.specs.Room.{hasRoom}
 use Rattle.numbers.specs.declared.many.Counted.{Counted}
 use Rattle.numbers.specs.declared.refusal.Fault.{Fault}
 use Rattle.numbers.specs.declared.refusal.Refusal.{Refusal}
-use Rattle.records.specs.Interval.{intervalBytes}
-use Rattle.records.specs.Settings.{settingsOf}
-use Rattle.records.specs.declared.interval.Interval.{Interval}
-use Rattle.records.specs.declared.settings.LabelSettings.{LabelSettings}
-use Rattle.records.specs.declared.settings.Settings.{Settings}
-use Rattle.records.specs.declared.settings.SettingsRead.{SettingsRead}
+use Rattle.settings.specs.Settings.{settingsOf}
+use Rattle.settings.specs.declared.LabelSettings.{LabelSettings}
+use Rattle.settings.specs.declared.Settings.{Settings}
+use Rattle.settings.specs.declared.SettingsRead.{SettingsRead}
+use Rattle.intervals.specs.Interval.{intervalBytes}
+use Rattle.intervals.specs.declared.Interval.{Interval}
 use Rattle.measure.specs.Outcome.{Frames, sound, faulty, framesIn, readsFrom, lengthOf, judgedOf, judgedFrames, judged, Outcome, answerOf, leftOf}
 use Rattle.measure.specs.Running.{nothing, finished, takenOf}
 use Rattle.measure.specs.declared.Answer.{Answer}

@@ -11,9 +11,9 @@ use Rattle.numbers.specs.Limits.{largestDelay}
 use Rattle.numbers.specs.Many.{recordAt}
 use Rattle.numbers.specs.Refusals.{refusal}
 use Rattle.numbers.specs.declared.refusal.Fault.{Fault}
-use Rattle.records.specs.Frame.{frameOf}
-use Rattle.records.specs.declared.frame.Frame.{Frame}
-use Rattle.records.specs.declared.frame.FrameRead.{FrameRead}
+use Rattle.frames.specs.Frame.{frameOf}
+use Rattle.frames.specs.declared.Frame.{Frame}
+use Rattle.frames.specs.declared.FrameRead.{FrameRead}
 use Rattle.measure.specs.Measured.{apart}
 use Rattle.measure.specs.Outcome.{Frames, sound, faulty, with, framesIn, readsFrom}
 use Rattle.measure.specs.Running.{nothing, added, addedAll, takenOf, Small}

@@ -9,8 +9,8 @@ use native.Mathlib.Omega.{arith}
 use lib.ListN.{length, length-append}
 use lib.Dec.{eqb, ltb}
 use borrow.Author.Tests.{eq-eqb, ne-eqb}
-use Rattle.records.specs.declared.frame.Frame.{Frame}
-use Rattle.records.specs.declared.settings.LabelSettings.{LabelSettings}
+use Rattle.settings.specs.declared.LabelSettings.{LabelSettings}
+use Rattle.frames.specs.declared.Frame.{Frame}
 use Rattle.measure.specs.Measured.{countIf, pairsIf, isLost, isLate, isPair, isJumpy, apart, delaysOf, sumOf, leastOf, mostOf, measured}
 use Rattle.measure.specs.Running.{nothing, added, addedAll, finished}
 use Rattle.measure.specs.declared.Tally.{Tally}

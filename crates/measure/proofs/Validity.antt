@@ -17,21 +17,21 @@ use Rattle.numbers.specs.Room.{hasRoom}
 use Rattle.numbers.specs.declared.many.Counted.{Counted}
 use Rattle.numbers.specs.declared.refusal.Fault.{Fault}
 use Rattle.numbers.specs.declared.refusal.Refusal.{Refusal}
-use Rattle.records.specs.Frame.{frameOf}
-use Rattle.records.specs.Settings.{settingsOf}
-use Rattle.records.specs.Interval.{intervalOf, intervalBytes, countRules, countsMeet, noDelayRules, delayRules, delaysMeet}
-use Rattle.records.specs.declared.frame.Frame.{Frame}
-use Rattle.records.specs.declared.frame.FrameRead.{FrameRead}
-use Rattle.records.specs.declared.interval.Interval.{Interval}
-use Rattle.records.specs.declared.settings.Settings.{Settings}
-use Rattle.records.specs.declared.settings.SettingsRead.{SettingsRead}
+use Rattle.settings.specs.Settings.{settingsOf}
+use Rattle.settings.specs.declared.Settings.{Settings}
+use Rattle.settings.specs.declared.SettingsRead.{SettingsRead}
+use Rattle.frames.specs.Frame.{frameOf}
+use Rattle.frames.specs.declared.Frame.{Frame}
+use Rattle.frames.specs.declared.FrameRead.{FrameRead}
+use Rattle.intervals.specs.Interval.{intervalOf, intervalBytes, countRules, countsMeet, noDelayRules, delayRules, delaysMeet}
+use Rattle.intervals.specs.declared.Interval.{Interval}
 use Rattle.measure.specs.declared.Judged.{Judged}
-use Rattle.records.specs.declared.interval.IntervalRead.{IntervalRead}
-use Rattle.records.specs.declared.settings.LabelSettings.{LabelSettings}
-use Rattle.records.proofs.RoundTrip.{read-write}
+use Rattle.settings.specs.declared.LabelSettings.{LabelSettings}
+use Rattle.intervals.specs.declared.IntervalRead.{IntervalRead}
+use Rattle.intervals.proofs.RoundTrip.{read-write}
 use Rattle.measure.specs.Measured.{countIf, pairsIf, isLost, isLate, isPair, isJumpy, apart, delaysOf, sumOf, leastOf, mostOf, measured}
 use Rattle.measure.specs.Outcome.{Frames, sound, faulty, with, unless, framesIn, readsFrom, lengthOf, judgedOf, refuseIf, judgedFrames, judgedCount, judgedSettings, judged}
-use Rattle.records.proofs.FrameRecord.{frame-valid}
+use Rattle.frames.proofs.FrameRecord.{frame-valid}
 use Rattle.measure.proofs.Tallies.{lost-or-delivered}
 
 -- counts

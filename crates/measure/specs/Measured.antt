@@ -4,9 +4,9 @@ use mathlib.Core.Bool.{Bool, _&&_, not, cond}
 use mathlib.Core.List.{List, [], _∷_}
 use lib.ListN.{length}
 use lib.Dec.{ltb}
-use Rattle.records.specs.declared.frame.Frame.{Frame}
-use Rattle.records.specs.declared.interval.Interval.{Interval}
-use Rattle.records.specs.declared.settings.LabelSettings.{LabelSettings}
+use Rattle.settings.specs.declared.LabelSettings.{LabelSettings}
+use Rattle.frames.specs.declared.Frame.{Frame}
+use Rattle.intervals.specs.declared.Interval.{Interval}
 
 -- how many frames have a property, and how many frames have one together with the next frame
 

@@ -4,8 +4,8 @@ use mathlib.Core.Bool.{Bool, false, _&&_, not, cond}
 use mathlib.Core.List.{List, [], _∷_}
 use lib.Dec.{eqb, ltb}
 use Rattle.numbers.specs.Limits.{largestDelay}
-use Rattle.records.specs.declared.frame.Frame.{Frame}
-use Rattle.records.specs.declared.interval.Interval.{Interval}
+use Rattle.frames.specs.declared.Frame.{Frame}
+use Rattle.intervals.specs.declared.Interval.{Interval}
 use Rattle.measure.specs.Measured.{apart}
 use Rattle.measure.specs.Outcome.{Frames, sound, faulty}
 use Rattle.measure.specs.declared.Taken.{Taken}

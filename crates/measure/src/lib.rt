@@ -1,18 +1,15 @@
 // From frames to one interval.
+use frames::Frame;
+use frames::FrameRead;
+use intervals::Interval;
 use numbers::limits;
 use numbers::many;
 use numbers::many::Counted;
 use numbers::refusal::Fault;
 use numbers::refusal::Refusal;
 use numbers::room;
-use records::frame;
-use records::frame::Frame;
-use records::frame::FrameRead;
-use records::interval;
-use records::interval::Interval;
-use records::settings;
-use records::settings::LabelSettings;
-use records::settings::SettingsRead;
+use settings::LabelSettings;
+use settings::SettingsRead;
 ghost use mathlib.Core.Path.{_≡_};
 ghost use Prim.Native.Nat.{_^_, _≤_, _<_, min, max};
 ghost use mathlib.Core.Bool.{cond};
@@ -155,7 +152,7 @@ fn take_frames(s: &[u8], n: usize, from: u64, to: u64, dl: u32, jt: u32) -> Take
     let mut earliest: u64 = 0;
     let mut k: usize = 0;
     while k < n {
-        let FrameRead::Valid(f) = frame::read(many::part(s, 16, k)) else {
+        let FrameRead::Valid(f) = frames::read(many::part(s, 16, k)) else {
             return refuse(Fault::Field, k as u64);
         };
         let time = f.time;
@@ -239,7 +236,7 @@ pub fn interval(
     let judged = judge(v.label, frames, n, number, maintenance);
     match judged {
         Judged::Good(i) => {
-            interval::put(&mut out[at..at + 48], i);
+            intervals::put(&mut out[at..at + 48], i);
             Answer::Written
         }
         Judged::Bad(r) => Answer::Refused(r),

@@ -3,13 +3,12 @@
 use interval_words::delay_list;
 use interval_words::frame_list;
 use interval_words::label_list;
-use interval_words::running;
 use summary_words::report_list;
 use summary_words::summary_list;
 ghost use Rattle.interval_words.specs.DelayList.{delaysOutcome, Answers};
 ghost use Rattle.interval_words.specs.FrameList.{IntervalLeft};
 ghost use Rattle.interval_words.specs.LabelList.{LabelsLeft};
-ghost use Rattle.interval_words.specs.Running.{StartLeft, StepLeft};
+ghost use Rattle.evaluator_words.specs.Running.{StartLeft, StepLeft};
 ghost use Rattle.summary_words.specs.ReportList.{ReportLeft, VerdictsLeft};
 ghost use Rattle.summary_words.specs.SummaryList.{SummaryLeft, JoinLeft};
 
@@ -49,7 +48,7 @@ pub extern "C" fn mip_delays(settings: &[u8], delays: &[u32], answers: &mut [u64
 pub extern "C" fn mip_start(settings: &[u8], evaluator: &mut [u64]) -> u64
     ensures { λ r. ⌜ StartLeft (now (settings .entry)) (now (evaluator .entry)) r (now (evaluator .exit)) ⌝ }
 {
-    running::mip_start(settings, evaluator)
+    evaluator_words::mip_start(settings, evaluator)
 }
 
 // The next interval record: the evaluator is altered where it stands.
@@ -57,7 +56,7 @@ pub extern "C" fn mip_start(settings: &[u8], evaluator: &mut [u64]) -> u64
 pub extern "C" fn mip_step(evaluator: &mut [u64], interval: &[u8], settled: &mut [u64]) -> u64
     ensures { λ r. ⌜ StepLeft (now (evaluator .entry)) (now (interval .entry)) (now (settled .entry)) r (now (evaluator .exit)) (now (settled .exit)) ⌝ }
 {
-    running::mip_step(evaluator, interval, settled)
+    evaluator_words::mip_step(evaluator, interval, settled)
 }
 
 // The summary of the records from the number `first` on is written into 1,024 bytes of `out` from `at` on.

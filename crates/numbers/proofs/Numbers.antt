@@ -175,3 +175,8 @@ read-put w x l i fits room =
     ap (λ k. number (part k (sets l i (bytesOf w x)) i)) (sym e)
     ∙ ap number (part-put (bytesOf w x) l i (omega arith))
     ∙ number-of-bytes w x fits
+
+-- the bytes of a part are the bytes of its number
+pub part-bytes : (w : ℕ) (s : List ℕ) (i : ℕ) → Bytes s → bytesOf w (numberAt w s i) ≡ part w s i
+unfolding numberAt
+part-bytes w s i h = ap (λ k. bytesOf k (number (part w s i))) (sym (length-part w s i)) ∙ bytes-of-number (part w s i) (part-is-bytes w s i h)

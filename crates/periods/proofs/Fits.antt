@@ -6,7 +6,7 @@ use mathlib.Core.List.{List}
 use Prim.Native.Nat.{ℕ, _+_, _-_, _<_, _≤_}
 use native.Mathlib.Omega.{arith}
 use Rattle.numbers.specs.Limits.{intervals}
-use Rattle.records.specs.declared.settings.LabelSettings.{LabelSettings}
+use Rattle.settings.specs.declared.LabelSettings.{LabelSettings}
 use Rattle.tracks.specs.declared.Track.{Track}
 use Rattle.tracks.specs.Tracks.{join, quiet, countIn}
 use Rattle.tracks.specs.Valid.{TrackValid, JoinFits, TrackFits}

@@ -4,8 +4,8 @@ use mathlib.Core.Path.{_≡_, ap, _∙_}
 use mathlib.Core.List.{List}
 use Prim.Native.Nat.{ℕ}
 use lib.ListN.{length}
-use Rattle.records.specs.declared.interval.Interval.{Interval}
-use Rattle.records.specs.declared.settings.LabelSettings.{LabelSettings}
+use Rattle.settings.specs.declared.LabelSettings.{LabelSettings}
+use Rattle.intervals.specs.declared.Interval.{Interval}
 use Rattle.summaries.proofs.Placing.{size-summary}
 use Rattle.summaries.specs.Made.{madeOf}
 use Rattle.periods.specs.Stretches.{madeBytes, bytes-held}

@@ -2,8 +2,8 @@
 use mathlib.Core.Path.{_≡_, refl}
 use mathlib.Core.List.{List}
 use Prim.Native.Nat.{ℕ, _-_}
-use Rattle.records.specs.declared.interval.Interval.{Interval}
-use Rattle.records.specs.declared.settings.LabelSettings.{LabelSettings}
+use Rattle.settings.specs.declared.LabelSettings.{LabelSettings}
+use Rattle.intervals.specs.declared.Interval.{Interval}
 use Rattle.tallies.specs.declared.Period.{Period}
 use Rattle.tallies.specs.declared.Counts.{Counts}
 use Rattle.tallies.specs.declared.Tally.{Tally}

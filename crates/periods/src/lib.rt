@@ -1,5 +1,5 @@
 // What stands above the summaries sees of them: a valid one, its numbers and its label settings, and the report of the middle of three.
-use records::settings::LabelSettings;
+use settings::LabelSettings;
 use summaries::Summary;
 use summaries::SummaryRead;
 use tallies::Counts;

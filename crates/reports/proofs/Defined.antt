@@ -12,10 +12,10 @@ use borrow.Author.Tests.{eq-eqb}
 use Rattle.numbers.specs.Limits.{intervals}
 use Rattle.numbers.specs.Many.{recordAt}
 use Rattle.numbers.proofs.Parts.{record-there}
-use Rattle.records.specs.Settings.{labelMeets, sameLabel}
-use Rattle.records.specs.declared.interval.Interval.{Interval}
-use Rattle.records.specs.declared.settings.LabelSettings.{LabelSettings}
-use Rattle.records.proofs.SettingsRecord.{label-valid, same-label-self}
+use Rattle.settings.specs.Settings.{labelMeets, sameLabel}
+use Rattle.settings.specs.declared.LabelSettings.{LabelSettings}
+use Rattle.settings.proofs.SettingsRecord.{label-valid, same-label-self}
+use Rattle.intervals.specs.declared.Interval.{Interval}
 use Rattle.tallies.specs.Report.{Labelled}
 use Rattle.tallies.proofs.Valid.{AllValid}
 use Rattle.periods.specs.Stretches.{stretchOf, firstOf, afterOf, labelOf, madeStretch, madeBytes}

@@ -10,8 +10,8 @@ use lib.Dec.{eqb}
 use borrow.Author.Tests.{eqb-true}
 use Rattle.numbers.specs.Refusals.{refusal}
 use Rattle.numbers.specs.declared.refusal.Fault.{Fault}
-use Rattle.records.specs.Settings.{sameLabel}
-use Rattle.records.proofs.SettingsRecord.{same-label-equal}
+use Rattle.settings.specs.Settings.{sameLabel}
+use Rattle.settings.proofs.SettingsRecord.{same-label-equal}
 use Rattle.tallies.specs.Bounds.{PeriodBounded}
 use Rattle.tallies.specs.declared.Period.{Period}
 use Rattle.periods.specs.Stretches.{stretchOf, firstOf, afterOf, labelOf, periodOf, Known}

@@ -10,8 +10,8 @@ use Rattle.numbers.specs.Limits.{pairs}
 use Rattle.numbers.specs.Many.{recordAt}
 use Rattle.numbers.specs.Refusals.{refusal}
 use Rattle.numbers.specs.declared.refusal.Fault.{Fault}
-use Rattle.records.specs.Settings.{sameLabel}
-use Rattle.records.specs.declared.settings.LabelSettings.{LabelSettings}
+use Rattle.settings.specs.Settings.{sameLabel}
+use Rattle.settings.specs.declared.LabelSettings.{LabelSettings}
 use Rattle.periods.specs.Stretches.{stretchOf, firstOf, afterOf, labelOf, periodOf}
 use Rattle.periods.specs.declared.Stretch.{Stretch}
 use Rattle.periods.specs.declared.StretchRead.{StretchRead}

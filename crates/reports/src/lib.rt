@@ -4,14 +4,13 @@ use numbers::refusal::Fault;
 use numbers::refusal::Refusal;
 use periods::Stretch;
 use periods::StretchRead;
-use records::settings;
-use records::settings::LabelSettings;
+use settings::LabelSettings;
 use tallies::Period;
 ghost use mathlib.Core.Path.{_≡_};
 ghost use Prim.Native.Nat.{_≤_};
 ghost use lib.Dec.{eqb};
 ghost use Rattle.numbers.specs.Refusals.{refusal};
-ghost use Rattle.records.specs.Settings.{sameLabel};
+ghost use Rattle.settings.specs.Settings.{sameLabel};
 ghost use Rattle.periods.specs.Stretches.{firstOf, afterOf, labelOf};
 ghost use Rattle.reports.specs.Three.{summaryAt, suits, judgedThree, threeAt, reportOf, ThreeRead, places};
 

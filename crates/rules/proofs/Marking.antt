@@ -5,8 +5,8 @@ use mathlib.Core.Bool.{Bool}
 use mathlib.Core.List.{List, [], _∷_, map}
 use Prim.Native.Nat.{_-_}
 use native.Mathlib.Omega.{arith}
-use Rattle.records.specs.declared.interval.Interval.{Interval}
-use Rattle.records.proofs.IntervalRecord.{IntervalValid}
+use Rattle.intervals.specs.declared.Interval.{Interval}
+use Rattle.intervals.proofs.IntervalRecord.{IntervalValid}
 use Rattle.runs.specs.Sound.{Sound, AllSound}
 use Rattle.tallies.specs.Seen.{markedAs}
 use Rattle.tallies.proofs.Valid.{AllValid}

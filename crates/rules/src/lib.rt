@@ -1,7 +1,7 @@
 // The rules of a track, as tests: what a reader of records looks at. Each takes any values at all. And what a track sees of an interval
 // record.
+use intervals::Interval;
 use numbers::limits;
-use records::interval::Interval;
 use runs::figures;
 use runs::figures::Figures;
 use runs::figures::Load;

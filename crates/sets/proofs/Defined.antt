@@ -7,11 +7,11 @@ use Prim.Native.Nat.{ℕ, suc, _+_, _*_, _≤_}
 use native.Mathlib.Omega.{arith}
 use lib.ListN.{length, length-append}
 use Rattle.numbers.specs.Limits.{pairs}
-use Rattle.records.specs.Settings.{labelMeets, settingsOf}
-use Rattle.records.specs.declared.settings.LabelSettings.{LabelSettings}
-use Rattle.records.specs.declared.settings.Settings.{Settings}
-use Rattle.records.specs.declared.settings.SettingsRead.{SettingsRead}
-use Rattle.records.proofs.SettingsRecord.{same-label-self}
+use Rattle.settings.specs.Settings.{labelMeets, settingsOf}
+use Rattle.settings.specs.declared.LabelSettings.{LabelSettings}
+use Rattle.settings.specs.declared.Settings.{Settings}
+use Rattle.settings.specs.declared.SettingsRead.{SettingsRead}
+use Rattle.settings.proofs.SettingsRecord.{same-label-self}
 use Rattle.labels.proofs.Placing.{read-label}
 use Rattle.verdicts.specs.Verdicts.{verdictsOf}
 use Rattle.verdicts.specs.Sets.{ofSets}

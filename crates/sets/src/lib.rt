@@ -2,11 +2,10 @@
 use numbers::limits;
 use numbers::refusal::Fault;
 use numbers::refusal::Refusal;
-use records::settings;
-use records::settings::Settings;
-use records::settings::SettingsRead;
 use reports::Reported;
 use reports::Wanted;
+use settings::Settings;
+use settings::SettingsRead;
 use verdicts::Verdicts;
 ghost use mathlib.Core.Path.{_≡_};
 ghost use mathlib.Core.List.{[]};

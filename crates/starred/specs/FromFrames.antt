@@ -2,8 +2,8 @@
 use mathlib.Core.Bool.{true, false}
 use mathlib.Core.List.{List, [], _∷_}
 use Prim.Native.Nat.{ℕ}
-use Rattle.records.specs.declared.frame.Frame.{Frame}
-use Rattle.records.specs.declared.settings.LabelSettings.{LabelSettings}
+use Rattle.settings.specs.declared.LabelSettings.{LabelSettings}
+use Rattle.frames.specs.declared.Frame.{Frame}
 
 abbrev pub delivered : ℕ → ℕ → Frame
 delivered time delay = record { time = time; delay = delay; lost = false }

@@ -7,9 +7,9 @@ use Prim.Native.Nat.{ℕ, suc, _+_, _-_, _≤_}
 use native.Mathlib.Omega.{arith}
 use lib.ListN.{length, length-map}
 use Rattle.numbers.specs.Limits.{intervals}
-use Rattle.records.specs.Settings.{labelMeets}
-use Rattle.records.specs.declared.interval.Interval.{Interval}
-use Rattle.records.specs.declared.settings.LabelSettings.{LabelSettings}
+use Rattle.settings.specs.Settings.{labelMeets}
+use Rattle.settings.specs.declared.LabelSettings.{LabelSettings}
+use Rattle.intervals.specs.declared.Interval.{Interval}
 use Rattle.labels.specs.Marked.{lossMark, compositeMark}
 use Rattle.tallies.specs.Seen.{markedAs, lossSeen, compositeSeen}
 use Rattle.tallies.proofs.Valid.{AllValid}

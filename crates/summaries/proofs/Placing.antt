@@ -10,8 +10,8 @@ use borrow.Rule.Slice.PartMut.{putMid}
 use Rattle.numbers.specs.Bytes.{bytesOf, placed}
 use Rattle.numbers.proofs.Numbers.{length-bytes}
 use Rattle.numbers.proofs.Window.{part-placed, sets-whole}
-use Rattle.records.specs.Settings.{labelBytes}
-use Rattle.records.proofs.RoundTrip.{length-label}
+use Rattle.settings.specs.Settings.{labelBytes}
+use Rattle.settings.proofs.RoundTrip.{length-label}
 use Rattle.layout.specs.Bytes.{trackBytes}
 use Rattle.layout.proofs.Laying.{piece, laid-joined}
 use Rattle.layout.proofs.Sizes.{size-track}

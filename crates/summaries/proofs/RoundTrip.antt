@@ -14,11 +14,12 @@ use Rattle.numbers.specs.Bytes.{numberAt, part, bytesOf, areZero, Bytes}
 use Rattle.numbers.specs.Limits.{intervals}
 use Rattle.numbers.specs.Rules.{allMet}
 use Rattle.numbers.proofs.Bounds.{intervals-fit}
-use Rattle.numbers.proofs.Numbers.{number-of-bytes, length-bytes, length-part, part-is-bytes, part-append, part-whole}
+use Rattle.numbers.proofs.Numbers.{number-of-bytes, length-bytes, length-part, part-is-bytes, part-append, part-whole, part-bytes}
 use Rattle.numbers.proofs.Rules.{rule-met}
-use Rattle.records.specs.Settings.{labelIn, shapeBytes, thresholdBytes, labelBytes}
-use Rattle.records.specs.declared.settings.LabelSettings.{LabelSettings}
-use Rattle.records.proofs.RoundTrip.{part-bytes, zero-bytes, length-label, label-read-write, label-write-read}
+use Rattle.numbers.proofs.Zeros.{zero-bytes}
+use Rattle.settings.specs.Settings.{labelIn, shapeBytes, thresholdBytes, labelBytes}
+use Rattle.settings.specs.declared.LabelSettings.{LabelSettings}
+use Rattle.settings.proofs.RoundTrip.{length-label, label-read-write, label-write-read}
 use Rattle.rules.proofs.Meeting.{track-meets}
 use Rattle.tracks.specs.Tracks.{countIn}
 use Rattle.layout.specs.Bytes.{trackBytes}

@@ -9,7 +9,7 @@ use borrow.Author.Tests.{leb-true, eqb-true}
 use Rattle.numbers.specs.Limits.{intervals}
 use Rattle.numbers.specs.Rules.{allMet}
 use Rattle.numbers.proofs.Rules.{rule-met}
-use Rattle.records.specs.Settings.{labelMeets}
+use Rattle.settings.specs.Settings.{labelMeets}
 use Rattle.rules.proofs.Meeting.{track-met}
 use Rattle.tracks.specs.Tracks.{countIn}
 use Rattle.tracks.specs.Valid.{TrackValid}

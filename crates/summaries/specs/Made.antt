@@ -2,8 +2,8 @@
 use Prim.Native.Nat.{ℕ, _+_}
 use mathlib.Core.List.{List, map}
 use lib.ListN.{length}
-use Rattle.records.specs.declared.interval.Interval.{Interval}
-use Rattle.records.specs.declared.settings.LabelSettings.{LabelSettings}
+use Rattle.settings.specs.declared.LabelSettings.{LabelSettings}
+use Rattle.intervals.specs.declared.Interval.{Interval}
 use Rattle.tallies.specs.Seen.{lossSeen, compositeSeen}
 use Rattle.tracks.specs.Tracks.{summary}
 use Rattle.summaries.specs.declared.Summary.{Summary}

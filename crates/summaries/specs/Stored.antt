@@ -7,7 +7,7 @@ use lib.Dec.{leb, eqb}
 use Rattle.numbers.specs.Bytes.{numberAt, areZero, bytesOf}
 use Rattle.numbers.specs.Limits.{intervals}
 use Rattle.numbers.specs.Rules.{allMet}
-use Rattle.records.specs.Settings.{labelIn, labelMeets, labelBytes}
+use Rattle.settings.specs.Settings.{labelIn, labelMeets, labelBytes}
 use Rattle.layout.specs.Bytes.{trackBytes}
 use Rattle.layout.specs.Reading.{trackIn, wordsMeet}
 use Rattle.rules.specs.Meets.{trackMeets}

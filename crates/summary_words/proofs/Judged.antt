@@ -9,9 +9,9 @@ use Rattle.numbers.specs.Limits.{pairs}
 use Rattle.numbers.specs.Refusals.{refusal}
 use Rattle.numbers.specs.declared.refusal.Fault.{Fault}
 use Rattle.numbers.specs.declared.refusal.Refusal.{Refusal}
-use Rattle.records.specs.Settings.{settingsOf}
-use Rattle.records.specs.declared.settings.Settings.{Settings}
-use Rattle.records.specs.declared.settings.SettingsRead.{SettingsRead}
+use Rattle.settings.specs.Settings.{settingsOf}
+use Rattle.settings.specs.declared.Settings.{Settings}
+use Rattle.settings.specs.declared.SettingsRead.{SettingsRead}
 use Rattle.tallies.specs.declared.Period.{Period}
 use Rattle.verdicts.specs.declared.Verdicts.{Verdicts}
 use Rattle.reports.specs.Three as three

@@ -16,11 +16,11 @@ use Rattle.numbers.specs.Room.{hasRoom}
 use Rattle.numbers.specs.declared.many.Counted.{Counted}
 use Rattle.numbers.specs.declared.refusal.Fault.{Fault}
 use Rattle.numbers.specs.declared.refusal.Refusal.{Refusal}
-use Rattle.records.specs.Sequence.{readsFrom, intervalsIn, checked}
-use Rattle.records.specs.Settings.{settingsOf, sameLabel}
-use Rattle.records.specs.declared.interval.Sequence.{Sequence}
-use Rattle.records.specs.declared.settings.LabelSettings.{LabelSettings}
-use Rattle.records.specs.declared.settings.SettingsRead.{SettingsRead}
+use Rattle.settings.specs.Settings.{settingsOf, sameLabel}
+use Rattle.settings.specs.declared.LabelSettings.{LabelSettings}
+use Rattle.settings.specs.declared.SettingsRead.{SettingsRead}
+use Rattle.intervals.specs.Sequence.{readsFrom, intervalsIn, checked}
+use Rattle.intervals.specs.declared.Sequence.{Sequence}
 use Rattle.labels.proofs.Places.{checked-place}
 use Rattle.summaries.specs.Stored.{summaryOf}
 use Rattle.summaries.specs.declared.Summary.{Summary}

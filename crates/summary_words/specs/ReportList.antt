@@ -8,8 +8,8 @@ use lib.Dec.{leb, eqb}
 use Rattle.numbers.specs.Limits.{pairs}
 use Rattle.numbers.specs.Refusals.{refusal}
 use Rattle.numbers.specs.declared.refusal.Fault.{Fault}
-use Rattle.records.specs.Settings.{settingsOf}
-use Rattle.records.specs.declared.settings.SettingsRead.{SettingsRead}
+use Rattle.settings.specs.Settings.{settingsOf}
+use Rattle.settings.specs.declared.SettingsRead.{SettingsRead}
 use Rattle.tallies.specs.declared.Counts.{Counts}
 use Rattle.tallies.specs.declared.Period.{Period}
 use Rattle.tallies.specs.declared.Totals.{Totals}

@@ -2,10 +2,9 @@
 use numbers::limits;
 use numbers::refusal::Fault;
 use numbers::refusal::Refusal;
-use records::settings;
-use records::settings::SettingsRead;
 use reports::Reported;
 use sets::Judged;
+use settings::SettingsRead;
 use tallies::Counts;
 use tallies::Period;
 use tallies::Totals;

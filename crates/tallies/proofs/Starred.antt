@@ -7,8 +7,8 @@ use mathlib.Core.List.{List, [], _∷_, _++_, map}
 use Prim.Native.Nat.{ℕ}
 use lib.ListN.{length}
 use Rattle.numbers.specs.Limits.{million}
-use Rattle.records.specs.declared.interval.Interval.{Interval}
-use Rattle.records.specs.declared.settings.LabelSettings.{LabelSettings}
+use Rattle.settings.specs.declared.LabelSettings.{LabelSettings}
+use Rattle.intervals.specs.declared.Interval.{Interval}
 use Rattle.rule.specs.Evaluator.{settles, gain, turn, run, told, labelling}
 use Rattle.rule.specs.Marks.{above, weighed, nothingWeighed, indicator, highLoss, highComposite}
 use Rattle.labels.specs.Marked.{lossMark, compositeMark}

@@ -3,8 +3,8 @@ use mathlib.Core.Bool.{true, false, cond}
 use mathlib.Core.List.{List, [], _∷_, map}
 use Prim.Native.Nat.{ℕ, suc}
 use lib.ListN.{length}
-use Rattle.records.specs.declared.interval.Interval.{Interval}
-use Rattle.records.specs.declared.settings.LabelSettings.{LabelSettings}
+use Rattle.settings.specs.declared.LabelSettings.{LabelSettings}
+use Rattle.intervals.specs.declared.Interval.{Interval}
 use Rattle.rule.specs.Labels.{Label, settled, undecided}
 use Rattle.labels.specs.Marked.{lossMark, compositeMark}
 use Rattle.tallies.specs.declared.Counts.{Counts}

@@ -1,7 +1,7 @@
 -- An interval record as a track sees it, with its mark on that track.
 use mathlib.Core.Bool.{Bool}
-use Rattle.records.specs.declared.interval.Interval.{Interval}
-use Rattle.records.specs.declared.settings.LabelSettings.{LabelSettings}
+use Rattle.settings.specs.declared.LabelSettings.{LabelSettings}
+use Rattle.intervals.specs.declared.Interval.{Interval}
 use Rattle.labels.specs.Marked.{lossMark, compositeMark}
 use Rattle.tallies.specs.declared.Marked.{Marked}
 

@@ -2,8 +2,8 @@
 use Prim.Native.Nat.{ℕ}
 use native.Mathlib.Omega.{arith}
 use Rattle.numbers.specs.Limits.{intervals, frames}
-use Rattle.records.specs.declared.settings.Settings.{Settings}
-use Rattle.records.proofs.SettingsRecord.{SettingsValid}
+use Rattle.settings.specs.declared.Settings.{Settings}
+use Rattle.settings.proofs.SettingsRecord.{SettingsValid}
 use Rattle.tallies.specs.declared.Period.{Period}
 use Rattle.tallies.specs.Bounds.{PeriodBounded}
 use Rattle.verdicts.specs.Verdicts.{Judgeable}

@@ -5,7 +5,7 @@ use Prim.Native.Nat.{ℕ, zero, suc, _+_, _-_, _*_, _<_}
 use native.Mathlib.Omega.{arith}
 use borrow.Author.Tests.{le-leb}
 use Rattle.numbers.specs.Limits.{million}
-use Rattle.records.specs.declared.settings.Settings.{Settings}
+use Rattle.settings.specs.declared.Settings.{Settings}
 use Rattle.tallies.specs.declared.Period.{Period}
 use Rattle.tallies.specs.declared.Totals.{Totals}
 use Rattle.tallies.specs.Bounds.{Bounded, PeriodBounded}

@@ -1,6 +1,6 @@
 // Verdicts of a report against the objectives of settings, and of a set of reports.
 use numbers::limits;
-use records::settings::Settings;
+use settings::Settings;
 use tallies::Period;
 use tallies::Totals;
 ghost use mathlib.Core.Path.{_≡_};

@@ -2,7 +2,7 @@
 -- 1,000,000.
 use mathlib.Core.Path.{sym, _∙_}
 use borrow.Author.Needs.{needs}
-use Rattle.records.proofs.SettingsRecord.{settings-valid}
+use Rattle.settings.proofs.SettingsRecord.{settings-valid}
 use Rattle.delays.proofs.Judged.{outcome-valid, outcome-invalid}
 use Rattle.delays.proofs.delays.Statement.{statement}
 use Rattle.delays.proofs.delays.Tie as tie

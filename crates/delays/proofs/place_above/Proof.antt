@@ -4,8 +4,8 @@ use mathlib.Core.Path.{_≡_, ap}
 use borrow.Author.Needs.{needs}
 use native.Mathlib.Omega.{arith}
 use lib.ListN.{length, drop}
-use Rattle.delays.specs.Percentile.{placeAbove}
-use Rattle.delays.proofs.Place.{place-here, place-on, place-none}
+use Rattle.percentile.specs.Percentile.{placeAbove}
+use Rattle.percentile.proofs.Place.{place-here, place-on, place-none}
 use Rattle.delays.proofs.place_above.Statement.{statement}
 use Rattle.delays.proofs.place_above.Tie as tie
 

@@ -6,7 +6,7 @@ use native.Mathlib.Omega.{arith}
 use borrow.Author.Tests.{not-true, not-false}
 use lib.ListN.{length}
 use Rattle.numbers.proofs.Window.{room-within}
-use Rattle.records.proofs.SettingsRecord.{same-label-equal}
+use Rattle.settings.proofs.SettingsRecord.{same-label-equal}
 use Rattle.summaries.proofs.Placing.{part-filled, size-summary}
 use Rattle.joining.specs.Joining.{Adjoining}
 use Rattle.joining.proofs.Judging.{short-left, short-right, no-room, bad-left, bad-right, other-settings, apart, made}

@@ -4,7 +4,7 @@ use mathlib.Core.Path.{_≡_, ap, sym, _∙_}
 use Prim.Native.Nat.{_/_, _<_}
 use native.Mathlib.Omega.{arith}
 use lib.ListN.{length}
-use Rattle.records.proofs.IntervalRecord.{interval-valid}
+use Rattle.intervals.proofs.IntervalRecord.{interval-valid}
 use Rattle.labels.specs.Marked.{lossMark, compositeMark}
 use Rattle.runs.specs.Runs.{single}
 use Rattle.tracks.specs.declared.Track.the-variants.{Nothing}

@@ -7,9 +7,9 @@ use native.Mathlib.Omega.{arith}
 use lib.ListN.{length}
 use Rattle.numbers.specs.Room.{hasRoom}
 use Rattle.numbers.proofs.Window.{room-within, part-placed}
-use Rattle.records.specs.Interval.{intervalBytes}
-use Rattle.records.proofs.IntervalRecord.{length-interval}
-use Rattle.records.proofs.SettingsRecord.{settings-valid}
+use Rattle.settings.proofs.SettingsRecord.{settings-valid}
+use Rattle.intervals.specs.Interval.{intervalBytes}
+use Rattle.intervals.proofs.IntervalRecord.{length-interval}
 use Rattle.measure.proofs.Judging.{no-settings, no-length, no-room, not-sound, made}
 use borrow.Author.Needs.{needs}
 use borrow.Author.Tests.{not-true, not-false}

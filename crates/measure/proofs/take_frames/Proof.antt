@@ -7,8 +7,8 @@ use native.Mathlib.Nat.{sub-zero}
 use native.Mathlib.Omega.{arith}
 use borrow.Author.Needs.{needs}
 use Rattle.numbers.specs.Many.{recordAt}
-use Rattle.records.specs.Frame.{frameOf}
-use Rattle.records.proofs.FrameRecord.{frame-valid}
+use Rattle.frames.specs.Frame.{frameOf}
+use Rattle.frames.proofs.FrameRecord.{frame-valid}
 use Rattle.measure.specs.Outcome.{framesIn, readsFrom}
 use Rattle.measure.specs.Running.{nothing, takenOf, Small}
 use Rattle.measure.specs.declared.Tally.{Tally}

@@ -5,7 +5,7 @@ use Prim.Native.Nat.{_-_}
 use native.Mathlib.Omega.{arith}
 use borrow.Author.Needs.{needs}
 use Rattle.numbers.specs.Limits.{pairs}
-use Rattle.records.proofs.SettingsRecord.{settings-valid}
+use Rattle.settings.proofs.SettingsRecord.{settings-valid}
 use Rattle.verdicts.proofs.Fitting.{judgeable}
 use Rattle.periods.specs.Stretches.{labelOf}
 use Rattle.reports.proofs.Judging.{answer-found, found-bounded}

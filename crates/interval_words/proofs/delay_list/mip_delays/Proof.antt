@@ -2,8 +2,8 @@
 use mathlib.Core.Path.{sym, _∙_}
 use borrow.Author.Needs.{needs}
 use native.Mathlib.Omega.{arith}
-use Rattle.delays.proofs.Judged.{refused-place}
 use Rattle.numbers.specs.Limits
+use Rattle.delays.proofs.Judged.{refused-place}
 use Rattle.interval_words.proofs.Delayed.{refused, answered, invalid, short, roomy}
 use Rattle.interval_words.proofs.delay_list.mip_delays.Statement.{statement}
 use Rattle.interval_words.proofs.delay_list.mip_delays.Tie as tie

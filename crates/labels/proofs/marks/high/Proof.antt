@@ -2,7 +2,7 @@
 use borrow.Author.Needs.{needs}
 use native.Mathlib.Omega.{arith}
 use Rattle.numbers.specs.Limits.{million}
-use Rattle.records.proofs.SettingsRecord.{label-valid}
+use Rattle.settings.proofs.SettingsRecord.{label-valid}
 use Rattle.labels.proofs.marks.high.Statement.{statement}
 use Rattle.labels.proofs.marks.high.Tie as tie
 

@@ -1,0 +1,80 @@
+-- `choose` asks the sample only for ranks that it has.
+use borrow.Author.Needs.{needs}
+use native.Mathlib.Omega.{arith}
+use lib.ListN.{length}
+use Rattle.percentile.proofs.Sample.{rank-within}
+use Rattle.percentile.proofs.few.choose.Statement.{statement}
+use Rattle.percentile.proofs.few.choose.Tie as tie
+
+returns : tie.Need-returns
+returns c = search needs
+
+slice-aggregate-sample : tie.Need-slice-aggregate-sample
+slice-aggregate-sample c = search needs
+
+sample-requires : tie.Need-sample-requires
+sample-requires c κs = search needs
+
+mul-at : tie.Need-mul-at
+mul-at c = search needs
+
+div-at : tie.Need-div-at
+div-at c = search needs
+
+cast-at : tie.Need-cast-at
+cast-at c =
+    let start = c .before .before .before .before .before in
+    omega (arith, rank-within (start .args .k) (length (start .args .list .now)) (start .pre .1))
+
+slice-aggregate-search : tie.Need-slice-aggregate-search
+slice-aggregate-search c = search needs
+
+sub-search : tie.Need-sub-search
+sub-search c = search needs
+
+search-requires : tie.Need-search-requires
+search-requires c κs =
+    let start = c .before .before .before .before .before .before .before in
+    omega (arith, rank-within (start .args .k) (length (start .args .list .now)) (start .pre .1))
+
+cast-if3 : tie.Need-cast-if3
+cast-if3 c = search needs
+
+sub-if3 : tie.Need-sub-if3
+sub-if3 c = search needs
+
+slice-aggregate-search-2 : tie.Need-slice-aggregate-search-2
+slice-aggregate-search-2 c = search needs
+
+add-search : tie.Need-add-search
+add-search c = search needs
+
+search-requires-2 : tie.Need-search-requires-2
+search-requires-2 c κs = search needs
+
+returns-2 : tie.Need-returns-2
+returns-2 c = search needs
+
+returns-3 : tie.Need-returns-3
+returns-3 c = search needs
+
+pub choose-spec : {M : Type 1} → statement M
+choose-spec =
+    tie.close
+    (tie.spec
+    returns
+    slice-aggregate-sample
+    sample-requires
+    mul-at
+    div-at
+    cast-at
+    slice-aggregate-search
+    sub-search
+    search-requires
+    cast-if3
+    sub-if3
+    slice-aggregate-search-2
+    add-search
+    search-requires-2
+    returns-2
+    returns-3)

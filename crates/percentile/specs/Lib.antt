@@ -1,0 +1,2 @@
+pub mod Percentile
+pub mod Ranks

@@ -1,6 +1,0 @@
--- The laws of this crate that others cite.
-pub mod FrameRecord
-pub mod IntervalRecord
-pub mod RoundTrip
-pub mod Sequences
-pub mod SettingsRecord

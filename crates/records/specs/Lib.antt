@@ -1,4 +1,0 @@
-pub mod Frame
-pub mod Interval
-pub mod Sequence
-pub mod Settings

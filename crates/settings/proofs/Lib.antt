@@ -1,0 +1,3 @@
+-- The laws of this crate that others cite.
+pub mod RoundTrip
+pub mod SettingsRecord
