@@ -86,11 +86,7 @@ fn feed(step: Step, s: &[u8], r: &[u8], words: &mut [u64]) {
 
 pub fn rows(measure: &mut dyn FnMut(&Row)) {
     let s = inputs::settings(999_000);
-    for (name, make) in [
-        ("calm month", inputs::calm as fn(u32) -> Vec<u8>),
-        ("random marks", inputs::random),
-    ] {
-        let r = make(INTERVALS);
+    for (name, r) in inputs::months(INTERVALS) {
         measure(&Row {
             name: format!("mip_step, 3,000,000 steps, {name}"),
             items: ("step", INTERVALS as usize),

@@ -106,6 +106,11 @@ pub fn random(count: u32) -> Vec<u8> {
     (0..count).flat_map(of).collect()
 }
 
+/// The two sequences that every row of intervals is measured on.
+pub fn months(count: u32) -> [(&'static str, Vec<u8>); 2] {
+    [("calm month", calm(count)), ("random marks", random(count))]
+}
+
 /// The length of a buffer and an offset for an output of `size`, now and then one byte too few.
 pub fn room(r: &mut Random, size: usize) -> (usize, usize) {
     let at = r.below(8) as usize;

@@ -11,6 +11,11 @@ struct Lane {
 }
 
 impl Lane {
+    const START: Lane = Lane {
+        unavailable: false,
+        pending: 0,
+    };
+
     /// The mark of interval k: settles those that it can, in every second byte.
     #[inline(always)]
     fn mark(&mut self, n: usize, lane: usize, k: usize, high: bool, labels: &mut [u8]) {
@@ -35,24 +40,31 @@ impl Lane {
     }
 }
 
-/// Nothing may be written before all records are known to be good: the labels are written into memory of their own, and copied.
-fn by_copy(s: &[u8], r: &[u8], out: &mut [u8], at: usize) -> u64 {
-    let Some(settings) = settings(s) else {
-        return refused(1, 0);
-    };
+/// The label settings and the records, or the refusal that goes before that of any record.
+fn opened<'a>(
+    s: &[u8],
+    r: &'a [u8],
+    len: usize,
+    at: usize,
+) -> Result<(Label, &'a [[u8; 48]]), u64> {
+    let settings = settings(s).ok_or(refused(1, 0))?;
     if r.len() % 48 != 0 {
-        return refused(2, 0);
+        return Err(refused(2, 0));
     }
     let records = intervals(r);
-    if !has_room(out.len(), at, 2 * records.len()) {
-        return refused(3, 0);
+    if !has_room(len, at, 2 * records.len()) {
+        return Err(refused(3, 0));
     }
-    let l = settings.label;
-    let start = Lane {
-        unavailable: false,
-        pending: 0,
+    Ok((settings.label, records))
+}
+
+/// Nothing may be written before all records are known to be good: the labels are written into memory of their own, and copied.
+fn by_copy(s: &[u8], r: &[u8], out: &mut [u8], at: usize) -> u64 {
+    let (l, records) = match opened(s, r, out.len(), at) {
+        Ok(x) => x,
+        Err(word) => return word,
     };
-    let mut lanes = [start; 2];
+    let mut lanes = [Lane::START; 2];
     let mut labels = vec![0; 2 * records.len()];
     for (k, record) in records.iter().enumerate() {
         let Some(v) = Interval::read(record) else {
@@ -94,22 +106,11 @@ const NONE: u8 = u8::MAX;
 
 /// Forwards what each mark settles is kept, backwards each interval takes the label that is settled at it or next behind it.
 fn backwards(s: &[u8], r: &[u8], out: &mut [u8], at: usize) -> u64 {
-    let Some(settings) = settings(s) else {
-        return refused(1, 0);
+    let (l, records) = match opened(s, r, out.len(), at) {
+        Ok(x) => x,
+        Err(word) => return word,
     };
-    if r.len() % 48 != 0 {
-        return refused(2, 0);
-    }
-    let records = intervals(r);
-    if !has_room(out.len(), at, 2 * records.len()) {
-        return refused(3, 0);
-    }
-    let l = settings.label;
-    let start = Lane {
-        unavailable: false,
-        pending: 0,
-    };
-    let (mut loss, mut composite) = (start, start);
+    let (mut loss, mut composite) = (Lane::START, Lane::START);
     let mut events = Vec::with_capacity(records.len());
     for (k, record) in records.iter().enumerate() {
         let Some(v) = Interval::read(record) else {
@@ -140,11 +141,7 @@ fn backwards(s: &[u8], r: &[u8], out: &mut [u8], at: usize) -> u64 {
 
 pub fn rows(measure: &mut dyn FnMut(&Row)) {
     let s = inputs::settings(999_000);
-    for (name, make) in [
-        ("calm month", inputs::calm as fn(u32) -> Vec<u8>),
-        ("random marks", inputs::random),
-    ] {
-        let r = make(INTERVALS);
+    for (name, r) in inputs::months(INTERVALS) {
         measure(&Row {
             name: format!("mip_labels, 3,000,000 intervals, {name}"),
             items: ("record", INTERVALS as usize),

@@ -251,11 +251,7 @@ fn periods(s: &[u8], r: &[u8]) -> Vec<u8> {
 pub fn rows(measure: &mut dyn FnMut(&Row)) {
     let s = inputs::settings(999_000);
     let count = 60 * (PERIODS as u32 + 1);
-    let inputs = [
-        ("calm month", inputs::calm(count)),
-        ("random marks", inputs::random(count)),
-    ]
-    .map(|(name, r)| (name, periods(&s, &r)));
+    let inputs = inputs::months(count).map(|(name, r)| (name, periods(&s, &r)));
     for (name, all) in &inputs {
         let reports = |call: fn(&[u8], &mut [u64]) -> u64, out: &mut Out| {
             for (k, part) in all.chunks(THREE).enumerate() {

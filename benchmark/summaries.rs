@@ -632,10 +632,7 @@ pub fn made(s: &[u8], r: &[u8], count: usize) -> Vec<[u8; SIZE]> {
 
 pub fn rows(measure: &mut dyn FnMut(&Row)) {
     let s = inputs::settings(999_000);
-    let months = [
-        ("calm month", inputs::calm(INTERVALS)),
-        ("random marks", inputs::random(INTERVALS)),
-    ];
+    let months = inputs::months(INTERVALS);
     for (name, r) in &months {
         measure(&Row {
             name: format!("mip_summary, 3,000,000 intervals, {name}"),

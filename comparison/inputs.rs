@@ -169,21 +169,28 @@ pub fn valid_frames(r: &mut Random, s: &LabelSettings, number: u64, count: usize
     bytes
 }
 
-/// Damages one frame of several, or their order or number.
-pub fn damage_frames(r: &mut Random, s: &LabelSettings, number: u64, bytes: &mut Vec<u8>) {
-    let count = bytes.len() / 16;
-    let length = s.length * 1_000_000;
+/// Which record of `size` bytes to damage; or none, and the length is damaged.
+fn record_to_damage(r: &mut Random, bytes: &mut Vec<u8>, size: usize) -> Option<usize> {
+    let count = bytes.len() / size;
     if count == 0 || r.one_in(12) {
         let cut = r.index(bytes.len() + 1);
         bytes.truncate(cut);
-        let more = r.index(20);
+        let more = r.index(2 * size);
         bytes.extend(r.bytes(more));
-        return;
+        return None;
     }
-    let k = if r.one_in(4) {
+    Some(if r.one_in(4) {
         count - 1
     } else {
         r.index(count)
+    })
+}
+
+/// Damages one frame of several, or their order or number.
+pub fn damage_frames(r: &mut Random, s: &LabelSettings, number: u64, bytes: &mut Vec<u8>) {
+    let length = s.length * 1_000_000;
+    let Some(k) = record_to_damage(r, bytes, 16) else {
+        return;
     };
     let frame = 16 * k;
     let set_time = |bytes: &mut Vec<u8>, time: u64| {
@@ -324,24 +331,34 @@ pub fn valid_intervals(
         .collect()
 }
 
+/// How many intervals a case has: all that can be numbered in cases 10 and 11, else few and now and then many.
+pub fn interval_count(r: &mut Random, index: u64) -> usize {
+    match index {
+        10 | 11 => INTERVALS as usize,
+        12 => 200_000,
+        _ if r.one_in(4_000) => r.index(300_000),
+        _ if r.one_in(100) => r.index(5_000),
+        _ => some_count(r, 400),
+    }
+}
+
+/// One interval more than can be numbered.
+pub fn beyond_the_last(r: &mut Random, label: &LabelSettings) -> Vec<u8> {
+    Interval {
+        number: INTERVALS,
+        ..valid_interval(r, label)
+    }
+    .write()
+}
+
 pub fn written(intervals: &[Interval]) -> Vec<u8> {
     intervals.iter().flat_map(|i| i.write()).collect()
 }
 
 /// Damages one interval record of several, or their order or number. `Some` fields are set just past their rules.
 pub fn damage_intervals(r: &mut Random, bytes: &mut Vec<u8>) {
-    let count = bytes.len() / 48;
-    if count == 0 || r.one_in(12) {
-        let cut = r.index(bytes.len() + 1);
-        bytes.truncate(cut);
-        let more = r.index(100);
-        bytes.extend(r.bytes(more));
+    let Some(k) = record_to_damage(r, bytes, 48) else {
         return;
-    }
-    let k = if r.one_in(4) {
-        count - 1
-    } else {
-        r.index(count)
     };
     damage_interval(r, &mut bytes[48 * k..48 * k + 48]);
     if k > 0 && r.one_in(12) {

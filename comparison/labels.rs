@@ -7,24 +7,10 @@ use second::records::*;
 pub fn case(r: &mut Random, index: u64) -> Result<(), String> {
     let mut s = valid_settings(r);
     let label = read_settings(&s).unwrap().label;
-    let count = match index {
-        // all that can be numbered, and one record more
-        10 | 11 => INTERVALS as usize,
-        12 => 200_000,
-        _ if r.one_in(5_000) => r.index(300_000),
-        _ if r.one_in(100) => r.index(5_000),
-        _ => some_count(r, 400),
-    };
+    let count = interval_count(r, index);
     let mut records = written(&valid_intervals(r, &label, 0, count));
     if index == 11 {
-        let more = valid_interval(r, &label);
-        records.extend(
-            Interval {
-                number: INTERVALS,
-                ..more
-            }
-            .write(),
-        );
+        records.extend(beyond_the_last(r, &label));
     }
     for _ in 0..faults(r, index) {
         if r.one_in(10) && s.len() == 64 {

@@ -77,26 +77,12 @@ fn other_objectives(r: &mut Random, s: &[u8]) -> Vec<u8> {
 pub fn summary_case(r: &mut Random, index: u64) -> Result<(), String> {
     let mut s = valid_settings(r);
     let label = read_settings(&s).unwrap().label;
-    let count = match index {
-        10 | 11 => INTERVALS as usize,
-        12 => 200_000,
-        _ if r.one_in(3_000) => r.index(300_000),
-        _ if r.one_in(100) => r.index(5_000),
-        _ => some_count(r, 400),
-    };
+    let count = interval_count(r, index);
     let top = INTERVALS - count as u64;
     let mut first = if r.one_in(3) { 0 } else { r.edgy(0, top) };
     let mut records = written(&valid_intervals(r, &label, first, count));
     if index == 11 || (!large(index) && first == top && r.one_in(2)) {
-        // one more than can be numbered
-        let more = valid_interval(r, &label);
-        records.extend(
-            Interval {
-                number: INTERVALS,
-                ..more
-            }
-            .write(),
-        );
+        records.extend(beyond_the_last(r, &label));
     }
     for _ in 0..faults(r, index) {
         match r.below(10) {

@@ -1,5 +1,5 @@
 -- Every refusal of the evaluator's operations is at place 0: there is one record.
-use mathlib.Core.Path.{_≡_, refl}
+use mathlib.Core.Path.{_≡_}
 use mathlib.Core.Bool.{Bool, true, false, cond}
 use mathlib.Core.List.{List}
 use Prim.Native.Nat.{ℕ}
@@ -12,11 +12,10 @@ use Rattle.settings.specs.Settings.{settingsOf}
 use Rattle.settings.specs.declared.SettingsRead.{SettingsRead}
 use Rattle.intervals.specs.Interval.{intervalOf}
 use Rattle.intervals.specs.declared.IntervalRead.{IntervalRead}
-use Rattle.evaluator.specs.Evaluators.{heldOf, fedWith, answerOf, evaluatorMeets, startFrom, startOf, stepWith, stepOf, movedBy, movedOf}
+use Rattle.evaluator.specs.Evaluators.{heldOf, fedWith, answerOf, evaluatorMeets, startFrom, startOf, stepWith, stepOf}
 use Rattle.evaluator.specs.declared.Evaluator.{Evaluator}
 use Rattle.evaluator.specs.declared.Started.{Started}
 use Rattle.evaluator.specs.declared.Stepped.{Stepped}
-use Rattle.evaluator.specs.declared.Told.{Told}
 
 pub start-place : (s : List ℕ) (x : Refusal) → startOf s ≡ Started.Refused x → x .place ≡ 0
 unfolding startOf
@@ -48,11 +47,3 @@ step-place e r x h = lengths (eqb (length r) 48) h
     lengths : (z : Bool) → cond z (cond (evaluatorMeets e) (stepWith e (intervalOf r)) (Stepped.Refused (refusal Fault.Field 0))) (Stepped.Refused (refusal Fault.Length 0)) ≡ Stepped.Refused x → x .place ≡ 0
     lengths true h = evaluators (evaluatorMeets e) h
     lengths false h = no-place Fault.Length h
-
--- and so for the lent evaluator
-pub step-in-place : (e : Evaluator) (r : List ℕ) (x : Refusal) → movedOf e r .told ≡ Told.Refused x → x .place ≡ 0
-step-in-place e r x h = by (stepOf e r) refl h
-  where
-    by : (s : Stepped) → stepOf e r ≡ s → movedBy e s .told ≡ Told.Refused x → x .place ≡ 0
-    by (Stepped.Fed next a) f h = cc
-    by (Stepped.Refused y) f h = let same : y ≡ x = cc in rw same at (step-place e r y f)

@@ -9,8 +9,8 @@ use native.Mathlib.Omega.{arith}
 use native.Mathlib.Decide.{decLe}
 use lib.ListN.{length, take, drop, length-append, length-drop, take-append-drop}
 use lib.Seq.{drop-append-le, drop-append-add, take-append-le, length-take-le}
-use Rattle.numbers.specs.Many.{recordAt}
-use Rattle.numbers.proofs.Parts.{record-there, record-missing}
+use Rattle.numbers.specs.Many.{recordAt, readEach}
+use Rattle.numbers.proofs.Parts.{record-there, record-missing, each-many}
 use Rattle.intervals.specs.Interval.{intervalOf}
 use Rattle.intervals.specs.Sequence.{readsFrom, intervalsIn}
 use Rattle.feeding.specs.Feeding.{restOf}
@@ -39,21 +39,16 @@ unfolding restOf
 rest-few s h = let e : length s / 48 ≡ 0 = omega arith in rw e
 
 pub none-few : (s : List ℕ) → length s < 48 → intervalsIn s ≡ []
-unfolding intervalsIn readsFrom
+unfolding intervalsIn readEach
 none-few s h = let e : length s / 48 ≡ 0 = omega arith in rw e
-
-reads-many : (n : ℕ) (s : List ℕ) (k : ℕ) → length (readsFrom n s k) ≡ n
-unfolding readsFrom
-reads-many zero s k = refl
-reads-many (suc n) s k = ap suc (reads-many n s (suc k))
 
 pub records-many : (s : List ℕ) → length (intervalsIn s) ≡ length s / 48
 unfolding intervalsIn
-records-many s = reads-many (length s / 48) s 0
+records-many s = each-many intervalOf 48 s (length s / 48) 0
 
 -- so many records, and then so many more
 reads-split : (m n : ℕ) (s : List ℕ) (k : ℕ) → readsFrom (m + n) s k ≡ readsFrom m s k ++ readsFrom n s (k + m)
-unfolding readsFrom
+unfolding readEach
 reads-split zero n s k = rw (zero-add n, add-zero k)
 reads-split (suc m) n s k =
     rw (suc-add m n, add-suc k m)
@@ -88,12 +83,12 @@ module _ (w : List ℕ) (m : ℕ) (e : length w ≡ m * 48) where
       ]
 
   reads-first : (n : ℕ) (x : List ℕ) (k : ℕ) → k + n ≤ m → readsFrom n (w ++ x) k ≡ readsFrom n w k
-  unfolding readsFrom
+  unfolding readEach
   reads-first zero x k h = refl
   reads-first (suc n) x k h = rw (at-first x k (omega arith)) (ap (λ xs. intervalOf (recordAt w 48 k) ∷ xs) (reads-first n x (suc k) (omega arith)))
 
   reads-second : (n : ℕ) (x : List ℕ) (k : ℕ) → readsFrom n (w ++ x) (m + k) ≡ readsFrom n x k
-  unfolding readsFrom
+  unfolding readEach
   reads-second zero x k = refl
   reads-second (suc n) x k =
       rw (at-second x k) (ap (λ xs. intervalOf (recordAt x 48 k) ∷ xs) (ap (readsFrom n (w ++ x)) (sym (add-suc m k)) ∙ reads-second n x (suc k)))

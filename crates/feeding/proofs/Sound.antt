@@ -10,7 +10,7 @@ use lib.ListN.{length}
 use lib.Dec.{eqb}
 use borrow.Author.Tests.{eqb-true}
 use Rattle.numbers.specs.Limits.{intervals}
-use Rattle.numbers.specs.Many.{recordAt}
+use Rattle.numbers.specs.Many.{recordAt, readEach}
 use Rattle.numbers.specs.Refusals.{refusal}
 use Rattle.numbers.specs.declared.refusal.Fault.{Fault}
 use Rattle.numbers.specs.declared.refusal.Refusal.{Refusal}
@@ -92,7 +92,7 @@ pub record SoundPart (next : ℕ) (xs : List IntervalRead) : Type 0 where
 
 pub sound-part :
     (next place n : ℕ) (s : List ℕ) (k : ℕ) → next ≤ intervals → checked next place (readsFrom n s k) ≡ Sequence.Sound → SoundPart next (readsFrom n s k)
-unfolding checked readsFrom intervalsOf AllValid
+unfolding checked readEach intervalsOf AllValid
 sound-part next place zero s k h e = record { many = refl; valid = tt; within = omega arith }
 sound-part next place (suc n) s k h e = by (intervalOf (recordAt s 48 k)) (sound-part (suc next) (suc place) n s (suc k)) refl e
   where

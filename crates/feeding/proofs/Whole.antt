@@ -12,12 +12,12 @@ use lib.ListN.{length}
 use lib.Seq.{length-take-le}
 use lib.Dec.{eqb}
 use Rattle.numbers.specs.Limits.{intervals}
-use Rattle.numbers.specs.Many.{countOf, wholeIf}
+use Rattle.numbers.specs.Many.{countOf, wholeIf, readEach}
 use Rattle.numbers.specs.Room.{hasRoom}
 use Rattle.settings.specs.Settings.{settingsOf}
 use Rattle.settings.specs.declared.LabelSettings.{LabelSettings}
 use Rattle.settings.specs.declared.SettingsRead.{SettingsRead}
-use Rattle.intervals.specs.Sequence.{intervalsIn, readsFrom, checked}
+use Rattle.intervals.specs.Sequence.{intervalsIn, checked}
 use Rattle.intervals.specs.declared.Sequence.{Sequence}
 use Rattle.labels.specs.Stretch.{intervalsOf}
 use Rattle.labels.proofs.Placing.{read-label}
@@ -182,7 +182,7 @@ unfolding grown madeOf
 from-nothing l s = ap (heldIf (checked 0 0 (intervalsIn s))) (sym (join-made l 0 [] (intervalsOf (intervalsIn s))))
 
 pub fed-nothing : (settings tail : List ℕ) → fed (standing (begun settings) tail) [] ≡ standing (begun settings) tail
-unfolding fed filled begun restOf intervalsIn readsFrom checked intervalsOf
+unfolding fed filled begun restOf intervalsIn readEach checked intervalsOf
 fed-nothing settings tail = by (settingsOf settings)
   where
     by : (r : SettingsRead) → _≡_ {A = Standing} (record { held = grownBy (begunBy r) []; tail = [] }) (record { held = begunBy r; tail = [] })

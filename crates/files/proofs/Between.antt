@@ -42,12 +42,15 @@ unfolding madeOf
 three-known v k =
     let valid = summary-valid (k .bytes) v (k .read) in
     record {
-      left-bytes = summaryBytes (madeOf (v .label) (v .first) []);
-      middle-bytes = k .bytes;
-      right-bytes = summaryBytes (madeOf (v .label) (v .after) []);
-      left = nothing-read v (v .first) valid (omega (arith, valid .ordered, valid .within));
-      middle = stretch-held (k .bytes) ∙ ap heldIf (k .read);
-      right = nothing-read v (v .after) valid (valid .within);
+      read =
+          record {
+            left-bytes = summaryBytes (madeOf (v .label) (v .first) []);
+            middle-bytes = k .bytes;
+            right-bytes = summaryBytes (madeOf (v .label) (v .after) []);
+            left = nothing-read v (v .first) valid (omega (arith, valid .ordered, valid .within));
+            middle = stretch-held (k .bytes) ∙ ap heldIf (k .read);
+            right = nothing-read v (v .after) valid (valid .within);
+          };
       left-settings = label-held (stretch (madeOf (v .label) (v .first) [])) ∙ sym (label-held (stretch v));
       right-settings = label-held (stretch v) ∙ sym (label-held (stretch (madeOf (v .label) (v .after) [])));
       left-numbers = after-held (stretch (madeOf (v .label) (v .first) [])) ∙ add-zero (v .first) ∙ sym (first-held (stretch v));

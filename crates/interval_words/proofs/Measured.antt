@@ -1,5 +1,5 @@
 -- `mip_interval`: the place of a refusal is that of a frame, so it fits its word; and the outcome as a word.
-use Prim.Native.Nat.{ℕ, zero, suc, _+_, _*_, _≤_, _<_, _^_}
+use Prim.Native.Nat.{ℕ, suc, _+_, _*_, _≤_, _<_, _^_}
 use mathlib.Core.Bool.{Bool, true, false, _&&_}
 use mathlib.Core.List.{List, [], _∷_}
 use mathlib.Core.Path.{_≡_, refl, ap, sym, _∙_}
@@ -9,6 +9,8 @@ use native.Mathlib.Omega.{arith}
 use lib.ListN.{length}
 use lib.Dec.{leb, ltb, eqb}
 use borrow.Author.Tests.{le-ltb, lt-ltb}
+use Rattle.numbers.proofs.Parts.{each-many}
+use Rattle.frames.specs.Frame.{frameOf}
 use Rattle.measure.specs.Outcome.{Frames, sound, faulty, with, unless, framesIn, readsFrom, lengthOf, judgedOf, refuseIf, judgedFrames, judgedCount, judgedSettings, judged, answerOf, Outcome}
 use Rattle.measure.specs.declared.Answer.{Answer}
 use Rattle.measure.specs.declared.Judged.{Judged}
@@ -56,11 +58,6 @@ frames-place from to place earliest (FrameRead.Valid f ∷ rest) =
     (with-place f (framesIn from to (suc place) (f .time + 1) rest) (place + suc (length rest))
     (le-trans (frames-place from to (suc place) (f .time + 1) rest) more)))
 
-reads-length : (n : ℕ) (s : List ℕ) (k : ℕ) → length (readsFrom n s k) ≡ n
-unfolding readsFrom
-reads-length zero s k = refl
-reads-length (suc n) s k = ap suc (reads-length n s (suc k))
-
 placeOf : Judged → ℕ
 placeOf (Judged.Good v) = 0
 placeOf (Judged.Bad r) = r .place
@@ -81,7 +78,7 @@ judged-place l n number maintenance s =
     elim (decLe n frames) [
       | yes h ↦
           let within = frames-place (number * lengthOf l) ((number + 1) * lengthOf l) 0 0 (readsFrom n s 0) in
-          let count = reads-length n s 0 in
+          let count = each-many frameOf 16 s n 0 in
           let few : faultPlace (framesIn (number * lengthOf l) ((number + 1) * lengthOf l) 0 0 (readsFrom n s 0)) ≤ frames = omega (arith, within, count, h) in
           rw (le-ltb frames n h)
           (refuse-place (leb intervals number) Fault.Field _ frames

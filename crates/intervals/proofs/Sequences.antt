@@ -9,6 +9,7 @@ use borrow.Author.Tests.{eq-eqb, ne-eqb}
 use Rattle.numbers.specs.Many.{recordAt}
 use Rattle.numbers.specs.Refusals.{refusal}
 use Rattle.numbers.specs.declared.refusal.Fault.{Fault}
+use Rattle.numbers.proofs.Parts.{each-next, each-done}
 use Rattle.intervals.specs.Interval.{intervalOf}
 use Rattle.intervals.specs.Sequence.{readsFrom, intervalsIn, checked}
 use Rattle.intervals.specs.declared.Interval.{Interval}
@@ -22,15 +23,10 @@ unfolding intervalsIn
 reads-all s = let e : length s / 48 - 0 ≡ length s / 48 = omega arith in rw e
 
 pub reads-next : (n k : ℕ) (s : List ℕ) → k < n → readsFrom (n - k) s k ≡ intervalOf (recordAt s 48 k) ∷ readsFrom (n - (k + 1)) s (k + 1)
-unfolding readsFrom
-reads-next n k s h =
-    let e : n - k ≡ suc (n - (k + 1)) = omega arith in
-    let f : k + 1 ≡ suc k = omega arith in
-    rw (e, f)
+reads-next n k s h = each-next intervalOf 48 s n k h
 
 pub reads-done : (n k : ℕ) (s : List ℕ) → n ≤ k → readsFrom (n - k) s k ≡ []
-unfolding readsFrom
-reads-done n k s h = let e : n - k ≡ 0 = omega arith in rw e
+reads-done n k s h = each-done intervalOf 48 s n k h
 
 -- what the record at k does to the check
 

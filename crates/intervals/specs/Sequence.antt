@@ -1,10 +1,10 @@
 -- A slice of many interval records.
-use Prim.Native.Nat.{ℕ, zero, suc, _/_}
+use Prim.Native.Nat.{ℕ, suc, _/_}
 use mathlib.Core.Bool.{Bool, true, false}
 use mathlib.Core.List.{List, [], _∷_}
 use lib.ListN.{length}
 use lib.Dec.{eqb}
-use Rattle.numbers.specs.Many.{recordAt}
+use Rattle.numbers.specs.Many.{readEach}
 use Rattle.numbers.specs.Refusals.{refusal}
 use Rattle.numbers.specs.declared.refusal.Fault.{Fault}
 use Rattle.intervals.specs.Interval.{intervalOf}
@@ -12,9 +12,8 @@ use Rattle.intervals.specs.declared.IntervalRead.{IntervalRead}
 use Rattle.intervals.specs.declared.Sequence.{Sequence}
 
 -- what each of `n` records says, from the k-th on
-unfoldable pub readsFrom : ℕ → List ℕ → ℕ → List IntervalRead
-readsFrom zero s k = []
-readsFrom (suc n) s k = intervalOf (recordAt s 48 k) ∷ readsFrom n s (suc k)
+abbrev pub readsFrom : ℕ → List ℕ → ℕ → List IntervalRead
+readsFrom = readEach intervalOf 48
 
 -- what each whole record of `s` says
 unfoldable pub intervalsIn : List ℕ → List IntervalRead

@@ -8,7 +8,7 @@ use lib.Dec.{eqb}
 use lib.ListN.{length}
 use borrow.Author.Tests.{eqb-true}
 use Rattle.numbers.specs.Limits.{intervals}
-use Rattle.numbers.specs.Many.{recordAt, countOf}
+use Rattle.numbers.specs.Many.{recordAt, countOf, readEach}
 use Rattle.numbers.specs.Refusals.{refusal}
 use Rattle.numbers.specs.Room.{hasRoom}
 use Rattle.numbers.specs.declared.many.Counted.{Counted}
@@ -30,7 +30,7 @@ refused-place f k x e = cc
 
 -- each good record brings the next number nearer to the last
 pub checked-place : (m : ℕ) (s : List ℕ) (j next place : ℕ) (x : Refusal) → next ≤ intervals → checked next place (readsFrom m s j) ≡ Sequence.Refused x → x .place + next ≤ place + intervals
-unfolding checked readsFrom
+unfolding checked readEach
 checked-place zero s j next place x h e = absurd (never e)
   where
     never : Sequence.Sound ≡ Sequence.Refused x → ⊥

@@ -7,7 +7,8 @@ use native.Mathlib.Omega.{arith}
 use native.Mathlib.Nat.{add-zero, add-suc, suc-add, zero-add}
 use lib.Dec.{eqb}
 use lib.ListN.{length, getD, length-map}
-use Rattle.numbers.specs.Many.{recordAt}
+use Rattle.numbers.specs.Many.{recordAt, readEach}
+use Rattle.numbers.proofs.Parts.{each-many}
 use Rattle.intervals.specs.Interval.{intervalOf}
 use Rattle.intervals.specs.Sequence.{readsFrom, intervalsIn, checked, orderedIf}
 use Rattle.intervals.specs.declared.Interval.{Interval}
@@ -29,13 +30,8 @@ sound-all next place (IntervalRead.Valid v ∷ xs) e =
     ap (λ (ys : List IntervalRead). IntervalRead.Valid v ∷ ys)
     (sound-all (suc next) (suc place) xs (sound-rest (eqb (v .number) next) place (checked (suc next) (suc place) xs) e))
 
-reads-length : (m : ℕ) (s : List ℕ) (j : ℕ) → length (readsFrom m s j) ≡ m
-unfolding readsFrom
-reads-length zero s j = refl
-reads-length (suc m) s j = ap suc (reads-length m s (suc j))
-
 reads-at : (m : ℕ) (s : List ℕ) (j k : ℕ) → k < m → getD (readsFrom m s j) k IntervalRead.Invalid ≡ intervalOf (recordAt s 48 (j + k))
-unfolding readsFrom
+unfolding readEach
 reads-at zero s j k h = absurd (omega arith)
 reads-at (suc m) s j zero h = rw add-zero
 reads-at (suc m) s j (suc k) h = rw (add-suc, ← suc-add) (reads-at m s (suc j) k (omega arith))
@@ -44,7 +40,7 @@ reads-at (suc m) s j (suc k) h = rw (add-suc, ← suc-add) (reads-at m s (suc j)
 pub sound-length : (s : List ℕ) → checked 0 0 (intervalsIn s) ≡ Sequence.Sound → length (intervalsOf (intervalsIn s)) ≡ length s / 48
 unfolding intervalsIn
 sound-length s e =
-    sym (length-map (intervalsOf (intervalsIn s)) IntervalRead.Valid) ∙ ap length (sym (sound-all 0 0 (intervalsIn s) e)) ∙ reads-length (length s / 48) s 0
+    sym (length-map (intervalsOf (intervalsIn s)) IntervalRead.Valid) ∙ ap length (sym (sound-all 0 0 (intervalsIn s) e)) ∙ each-many intervalOf 48 s (length s / 48) 0
 
 getD-valid : (vs : List Interval) (k : ℕ) → k < length vs → (d : Interval) → getD (map IntervalRead.Valid vs) k IntervalRead.Invalid ≡ IntervalRead.Valid (getD vs k d)
 getD-valid [] k h d = absurd (omega arith)

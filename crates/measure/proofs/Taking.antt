@@ -2,7 +2,7 @@
 -- Assumes nothing.
 use mathlib.Core.Path.{_≡_, refl}
 use mathlib.Core.Bool.{Bool, true, false, cond, _&&_, not}
-use mathlib.Core.List.{List, [], _∷_}
+use mathlib.Core.List.{List}
 use Prim.Native.Nat.{ℕ, suc, _+_, _-_, _≤_, _<_}
 use native.Mathlib.Omega.{arith}
 use lib.Dec.{ltb}
@@ -11,6 +11,7 @@ use Rattle.numbers.specs.Limits.{largestDelay}
 use Rattle.numbers.specs.Many.{recordAt}
 use Rattle.numbers.specs.Refusals.{refusal}
 use Rattle.numbers.specs.declared.refusal.Fault.{Fault}
+use Rattle.numbers.proofs.Parts.{each-next, each-done}
 use Rattle.frames.specs.Frame.{frameOf}
 use Rattle.frames.specs.declared.Frame.{Frame}
 use Rattle.frames.specs.declared.FrameRead.{FrameRead}
@@ -47,19 +48,6 @@ pub sent-more : (dl jt : ℕ) (t : Tally) (f : Frame) → added dl jt t f .sent 
 unfolding added
 sent-more dl jt t f = refl
 
--- what is left to read at k of n
-
-reads-next : (n k : ℕ) (s : List ℕ) → k < n → readsFrom (n - k) s k ≡ frameOf (recordAt s 16 k) ∷ readsFrom (n - (k + 1)) s (k + 1)
-unfolding readsFrom
-reads-next n k s h =
-    let e : n - k ≡ suc (n - (k + 1)) = omega arith in
-    let f : k + 1 ≡ suc k = omega arith in
-    rw (e, f)
-
-reads-done : (n k : ℕ) (s : List ℕ) → n ≤ k → readsFrom (n - k) s k ≡ []
-unfolding readsFrom
-reads-done n k s h = let e : n - k ≡ 0 = omega arith in rw e
-
 with-taken : (dl jt : ℕ) (t : Tally) (f : Frame) (rest : Frames) → takenOf dl jt t (with f rest) ≡ takenOf dl jt (added dl jt t f) rest
 unfolding addedAll
 with-taken dl jt t f (sound fs) = refl
@@ -68,29 +56,29 @@ with-taken dl jt t f (faulty r) = refl
 module _ (dl jt from to n k earliest : ℕ) (s : List ℕ) (t : Tally) where
   pub take-done : n ≤ k → takenOf dl jt t (framesIn from to k earliest (readsFrom (n - k) s k)) ≡ Taken.All t
   unfolding framesIn addedAll
-  take-done h = rw (reads-done n k s h)
+  take-done h = rw (each-done frameOf 16 s n k h)
 
   pub take-invalid :
       k < n → frameOf (recordAt s 16 k) ≡ FrameRead.Invalid →
       takenOf dl jt t (framesIn from to k earliest (readsFrom (n - k) s k)) ≡ Taken.Not (refusal Fault.Field k)
   unfolding framesIn
-  take-invalid h e = rw (reads-next n k s h, e)
+  take-invalid h e = rw (each-next frameOf 16 s n k h, e)
 
   module _ (f : Frame) (h : k < n) (e : frameOf (recordAt s 16 k) ≡ FrameRead.Valid f) where
     pub take-early : f .time < from → takenOf dl jt t (framesIn from to k earliest (readsFrom (n - k) s k)) ≡ Taken.Not (refusal Fault.Outside k)
     unfolding framesIn
-    take-early early = rw (reads-next n k s h, e, lt-leb from (f .time) early)
+    take-early early = rw (each-next frameOf 16 s n k h, e, lt-leb from (f .time) early)
 
     pub take-beyond :
         from ≤ f .time → to ≤ f .time → takenOf dl jt t (framesIn from to k earliest (readsFrom (n - k) s k)) ≡ Taken.Not (refusal Fault.Outside k)
     unfolding framesIn
-    take-beyond low beyond = rw (reads-next n k s h, e, le-leb from (f .time) low, le-ltb (f .time) to beyond)
+    take-beyond low beyond = rw (each-next frameOf 16 s n k h, e, le-leb from (f .time) low, le-ltb (f .time) to beyond)
 
     pub take-disordered :
         from ≤ f .time → f .time < to → f .time < earliest → takenOf dl jt t (framesIn from to k earliest (readsFrom (n - k) s k)) ≡ Taken.Not (refusal Fault.Order k)
     unfolding framesIn
     take-disordered low high late =
-        rw (reads-next n k s h, e, le-leb from (f .time) low, lt-ltb (f .time) to high, lt-leb earliest (f .time) late)
+        rw (each-next frameOf 16 s n k h, e, le-leb from (f .time) low, lt-ltb (f .time) to high, lt-leb earliest (f .time) late)
 
     pub take-next :
         from ≤ f .time → f .time < to → earliest ≤ f .time →
@@ -99,5 +87,5 @@ module _ (dl jt from to n k earliest : ℕ) (s : List ℕ) (t : Tally) where
     unfolding framesIn
     take-next low high ordered =
         let g : k + 1 ≡ suc k = omega arith in
-        rw (reads-next n k s h, e, le-leb from (f .time) low, lt-ltb (f .time) to high, le-leb earliest (f .time) ordered, g)
+        rw (each-next frameOf 16 s n k h, e, le-leb from (f .time) low, lt-ltb (f .time) to high, le-leb earliest (f .time) ordered, g)
         (with-taken dl jt t f (framesIn from to (suc k) (f .time + 1) (readsFrom (n - suc k) s (suc k))))

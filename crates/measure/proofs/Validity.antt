@@ -12,7 +12,7 @@ use lib.ListN.{length}
 use lib.Dec.{leb, ltb, eqb}
 use borrow.Author.Tests.{lt-ltb, le-ltb, le-leb, leb-false, ltb-false, eq-eqb, ne-eqb}
 use Rattle.numbers.specs.Limits.{intervals, frames, largestDelay}
-use Rattle.numbers.specs.Many.{countOf, recordAt}
+use Rattle.numbers.specs.Many.{countOf, recordAt, readEach}
 use Rattle.numbers.specs.Room.{hasRoom}
 use Rattle.numbers.specs.declared.many.Counted.{Counted}
 use Rattle.numbers.specs.declared.refusal.Fault.{Fault}
@@ -192,7 +192,7 @@ one-more f n (faulty r) fs h more e = let z : _≡_ {A = ℕ} 0 1 = cc in absurd
 
 sound-frames :
     (from to n place earliest k : ℕ) (s : List ℕ) (fs : List Frame) → framesIn from to place earliest (readsFrom n s k) ≡ sound fs → Sound n fs
-unfolding framesIn readsFrom Sound AllDelays
+unfolding framesIn readEach Sound AllDelays
 sound-frames from to zero place earliest k s fs e = let q : [] ≡ fs = cc in subst (λ l. Sound 0 l) q (refl, tt)
 sound-frames from to (suc n) place earliest k s fs e =
     by (frameOf (recordAt s 16 k)) refl e (λ time gs. sound-frames from to n (suc place) time (suc k) s gs)

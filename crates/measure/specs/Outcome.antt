@@ -1,5 +1,5 @@
 -- What the operation `interval` answers and leaves in the caller's buffer, for every input, in document 01's order of refusals.
-use Prim.Native.Nat.{ℕ, zero, suc, _+_, _*_}
+use Prim.Native.Nat.{ℕ, suc, _+_, _*_}
 use mathlib.Core.Path.{_≡_}
 use mathlib.Core.Bool.{Bool, true, false, _&&_}
 use mathlib.Core.List.{List, [], _∷_}
@@ -7,7 +7,7 @@ use lib.ListN.{length}
 use lib.Dec.{leb, ltb, eqb}
 use Rattle.numbers.specs.Bytes.{placed}
 use Rattle.numbers.specs.Limits.{intervals, frames}
-use Rattle.numbers.specs.Many.{countOf, recordAt}
+use Rattle.numbers.specs.Many.{countOf, readEach}
 use Rattle.numbers.specs.Refusals.{refusal}
 use Rattle.numbers.specs.Room.{hasRoom}
 use Rattle.numbers.specs.declared.many.Counted.{Counted}
@@ -25,9 +25,8 @@ use Rattle.measure.specs.declared.Judged.{Judged}
 use Rattle.measure.specs.declared.Answer.{Answer}
 
 -- what each of n frame records says, from the k-th on
-unfoldable pub readsFrom : ℕ → List ℕ → ℕ → List FrameRead
-readsFrom zero s k = []
-readsFrom (suc n) s k = frameOf (recordAt s 16 k) ∷ readsFrom n s (suc k)
+abbrev pub readsFrom : ℕ → List ℕ → ℕ → List FrameRead
+readsFrom = readEach frameOf 16
 
 -- the frames that were read, or the first fault
 pub data Frames : Type 0 where

@@ -3,13 +3,11 @@
 use interval_words::delay_list;
 use interval_words::frame_list;
 use interval_words::label_list;
-use summary_words::report_list;
-use summary_words::summary_list;
 ghost use Rattle.interval_words.specs.DelayList.{delaysOutcome, Answers};
 ghost use Rattle.interval_words.specs.FrameList.{IntervalLeft};
 ghost use Rattle.interval_words.specs.LabelList.{LabelsLeft};
 ghost use Rattle.evaluator_words.specs.Running.{StartLeft, StepLeft};
-ghost use Rattle.summary_words.specs.ReportList.{ReportLeft, VerdictsLeft};
+ghost use Rattle.report_words.specs.ReportList.{ReportLeft, VerdictsLeft};
 ghost use Rattle.summary_words.specs.SummaryList.{SummaryLeft, JoinLeft};
 
 // Frames to one interval: its record is written into 48 bytes of `out` from `at` on.
@@ -70,7 +68,7 @@ pub extern "C" fn mip_summary(
 ) -> u64
     ensures { λ r. ⌜ SummaryLeft (now (settings .entry)) first (now (intervals .entry)) (now (out .entry)) at r (now (out .exit)) ⌝ }
 {
-    summary_list::mip_summary(settings, first, intervals, out, at)
+    summary_words::mip_summary(settings, first, intervals, out, at)
 }
 
 // The summary of two adjoining stretches is written into 1,024 bytes of `out` from `at` on.
@@ -78,7 +76,7 @@ pub extern "C" fn mip_summary(
 pub extern "C" fn mip_join(left: &[u8], right: &[u8], out: &mut [u8], at: usize) -> u64
     ensures { λ r. ⌜ JoinLeft (now (left .entry)) (now (right .entry)) (now (out .entry)) at r (now (out .exit)) ⌝ }
 {
-    summary_list::mip_join(left, right, out, at)
+    summary_words::mip_join(left, right, out, at)
 }
 
 // The report of the middle one of three adjoining summaries.
@@ -86,7 +84,7 @@ pub extern "C" fn mip_join(left: &[u8], right: &[u8], out: &mut [u8], at: usize)
 pub extern "C" fn mip_report(summaries: &[u8], figures: &mut [u64]) -> u64
     ensures { λ r. ⌜ ReportLeft (now (summaries .entry)) (now (figures .entry)) r (now (figures .exit)) ⌝ }
 {
-    report_list::mip_report(summaries, figures)
+    report_words::mip_report(summaries, figures)
 }
 
 // The verdicts of a set of pairs, three summaries each.
@@ -99,5 +97,5 @@ pub extern "C" fn mip_verdicts(
 ) -> u64
     ensures { λ r. ⌜ VerdictsLeft (now (settings .entry)) pairs (now (summaries .entry)) (now (answers .entry)) r (now (answers .exit)) ⌝ }
 {
-    report_list::mip_verdicts(settings, pairs, summaries, answers)
+    report_words::mip_verdicts(settings, pairs, summaries, answers)
 }

@@ -9,7 +9,7 @@ use native.Mathlib.Decide.{decLe}
 use lib.ListN.{length, take, drop, length-take, length-drop, drop-of-length-le}
 use lib.Seq.{sets, sets-eq, drop-drop}
 use lib.Dec.{leb}
-use borrow.Author.Tests.{leb-true, leb-false, le-leb, lt-leb}
+use borrow.Author.Tests.{leb-true, le-leb, lt-leb}
 use borrow.Rule.Slice.PartMut.{putMid}
 use Rattle.numbers.specs.Bytes.{placed}
 use Rattle.numbers.specs.Room.{hasRoom, Written}
@@ -17,10 +17,6 @@ use Rattle.numbers.specs.Room.{hasRoom, Written}
 pub room-within : (len at size : ℕ) → hasRoom len at size ≡ true → at + size ≤ len
 unfolding hasRoom
 room-within len at size h = leb-true (at + size) len h
-
-pub room-beyond : (len at size : ℕ) → hasRoom len at size ≡ false → len < at + size
-unfolding hasRoom
-room-beyond len at size h = leb-false (at + size) len h
 
 -- what code asks, with no sum that could wrap
 

@@ -43,9 +43,9 @@ pub record Three (a b c : Stretch) : Type 0 where
 pub known-three : (a b c : Stretch) → Known a b c → Three a b c
 known-three a b c h =
     record {
-      left = held-valid (h .left-bytes) a (h .left);
-      middle = held-valid (h .middle-bytes) b (h .middle);
-      right = held-valid (h .right-bytes) c (h .right);
+      left = held-valid (h .read .left-bytes) a (h .read .left);
+      middle = held-valid (h .read .middle-bytes) b (h .read .middle);
+      right = held-valid (h .read .right-bytes) c (h .read .right);
       left-settings = sym (label-held a) ∙ h .left-settings ∙ label-held b;
       right-settings = sym (label-held c) ∙ sym (h .right-settings) ∙ label-held b;
       left-numbers = sym (after-held a) ∙ h .left-numbers ∙ first-held b;

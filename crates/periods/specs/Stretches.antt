@@ -53,14 +53,18 @@ periodOf a b c =
       composite = countsOf (between (b .held .label .n) (b .held .label .p) (a .held .composite) (b .held .composite) (c .held .composite));
     }
 
--- three valid summaries of equal label settings, each right behind the one before
-pub record Known (a b c : Stretch) : Type 0 where
+-- three summaries, each of which is read out of bytes
+pub record ThreeRead (a b c : Stretch) : Type 0 where
   pub left-bytes : List ℕ
   pub middle-bytes : List ℕ
   pub right-bytes : List ℕ
   pub left : stretchOf left-bytes ≡ StretchRead.Valid a
   pub middle : stretchOf middle-bytes ≡ StretchRead.Valid b
   pub right : stretchOf right-bytes ≡ StretchRead.Valid c
+
+-- of equal label settings, each right behind the one before
+pub record Known (a b c : Stretch) : Type 0 where
+  pub read : ThreeRead a b c
   pub left-settings : labelOf a ≡ labelOf b
   pub right-settings : labelOf b ≡ labelOf c
   pub left-numbers : afterOf a ≡ firstOf b

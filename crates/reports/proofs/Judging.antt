@@ -14,11 +14,11 @@ use Rattle.settings.specs.Settings.{sameLabel}
 use Rattle.settings.proofs.SettingsRecord.{same-label-equal}
 use Rattle.tallies.specs.Bounds.{PeriodBounded}
 use Rattle.tallies.specs.declared.Period.{Period}
-use Rattle.periods.specs.Stretches.{stretchOf, firstOf, afterOf, labelOf, periodOf, Known}
+use Rattle.periods.specs.Stretches.{stretchOf, firstOf, afterOf, labelOf, periodOf, ThreeRead, Known}
 use Rattle.periods.specs.declared.Stretch.{Stretch}
 use Rattle.periods.specs.declared.StretchRead.{StretchRead}
 use Rattle.periods.proofs.Promises.{period-bounded}
-use Rattle.reports.specs.Three.{unless, suits, judgedThree, judgedReads, summaryAt, threeAt, reportOf, ThreeRead}
+use Rattle.reports.specs.Three.{unless, suits, judgedThree, judgedReads, summaryAt, threeAt, reportOf}
 use Rattle.reports.specs.declared.Reported.{Reported}
 use Rattle.reports.specs.declared.Wanted.{Wanted}
 
@@ -27,12 +27,7 @@ pub known-by :
     (a b c : Stretch) → ThreeRead a b c → sameLabel (labelOf a) (labelOf b) ≡ true → sameLabel (labelOf b) (labelOf c) ≡ true → eqb (afterOf a) (firstOf b) ≡ true → eqb (afterOf b) (firstOf c) ≡ true → Known a b c
 known-by a b c h p q e f =
     record {
-      left-bytes = h .left-bytes;
-      middle-bytes = h .middle-bytes;
-      right-bytes = h .right-bytes;
-      left = h .left;
-      middle = h .middle;
-      right = h .right;
+      read = h;
       left-settings = same-label-equal (labelOf a) (labelOf b) p;
       right-settings = same-label-equal (labelOf b) (labelOf c) q;
       left-numbers = eqb-true (afterOf a) (firstOf b) e;
@@ -134,12 +129,6 @@ answer-found w s base p e = reads-found w base _ _ _ p _ _ _ refl refl refl e
 -- so every report answered keeps to its bounds, for some p
 pub found-bounded : (p : Period) (f : Found p) → PeriodBounded (labelOf (f .b) .p) p
 found-bounded p f = subst (λ r. PeriodBounded (labelOf (f .b) .p) r) (f .told) (period-bounded (f .a) (f .b) (f .c) (f .known))
-
-pub report-bounded : (s : List ℕ) (p : Period) → reportOf s ≡ Reported.Answered p → (q : ℕ) × PeriodBounded q p
-unfolding reportOf
-report-bounded s p e =
-    let f = answer-found Wanted.Any s 0 p (passed _ _ _ _ p e .1) in
-    (labelOf (f .b) .p, found-bounded p f)
 
 -- two results that the contract allows are one
 pub report-coincide : (s : List ℕ) (x y : Reported) → x ≡ reportOf s → y ≡ reportOf s → x ≡ y

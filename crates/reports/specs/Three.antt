@@ -1,7 +1,6 @@
 -- What three summaries give, for every input, in document 01's order of refusals: 5 for all, left to right, then 8, then 7. Each at the place of the
 -- later one, counted from that of the first.
 use Prim.Native.Nat.{ℕ, _+_, _*_}
-use mathlib.Core.Path.{_≡_}
 use mathlib.Core.Bool.{Bool, true, false}
 use mathlib.Core.List.{List}
 use lib.ListN.{length}
@@ -59,12 +58,3 @@ reportOf s = unless (eqb (length s) 3072) Fault.Length 0 (threeAt Wanted.Any s 0
 -- summaries of all pairs: no place is beyond
 abbrev pub places : ℕ
 places = 3 * pairs
-
--- each is read out of bytes
-pub record ThreeRead (a b c : Stretch) : Type 0 where
-  pub left-bytes : List ℕ
-  pub middle-bytes : List ℕ
-  pub right-bytes : List ℕ
-  pub left : stretchOf left-bytes ≡ StretchRead.Valid a
-  pub middle : stretchOf middle-bytes ≡ StretchRead.Valid b
-  pub right : stretchOf right-bytes ≡ StretchRead.Valid c

@@ -11,8 +11,8 @@ ghost use Prim.Native.Nat.{_≤_};
 ghost use lib.Dec.{eqb};
 ghost use Rattle.numbers.specs.Refusals.{refusal};
 ghost use Rattle.settings.specs.Settings.{sameLabel};
-ghost use Rattle.periods.specs.Stretches.{firstOf, afterOf, labelOf};
-ghost use Rattle.reports.specs.Three.{summaryAt, suits, judgedThree, threeAt, reportOf, ThreeRead, places};
+ghost use Rattle.periods.specs.Stretches.{firstOf, afterOf, labelOf, ThreeRead};
+ghost use Rattle.reports.specs.Three.{summaryAt, suits, judgedThree, threeAt, reportOf, places};
 
 pub enum Reported {
     Answered(Period),

@@ -1,3 +1,2 @@
--- The laws of this crate that belong to no one function.
+-- The laws of this crate that others cite.
 pub mod Summarised
-pub mod Judged

@@ -1,3 +1,1 @@
--- The definitions that the contracts cite.
-pub mod ReportList
 pub mod SummaryList

@@ -2,7 +2,7 @@
 -- verdict of what it has passed. Both tests of the definition are "any", which two parts share out.
 use mathlib.Core.Path.{_≡_, refl, sym, ap, _∙_}
 use mathlib.Core.Bool.{Bool, true, false, cond, _||_, or-assoc, or-true}
-use mathlib.Core.List.{List, [], _∷_, _++_, map, foldl, append-nil, append-assoc, map-append}
+use mathlib.Core.List.{List, [], _∷_, _++_, map, map-append}
 use lib.Dec.{eqb}
 use Rattle.verdicts.specs.declared.Verdict.{Verdict}
 use Rattle.verdicts.specs.declared.Verdicts.{Verdicts}
@@ -84,25 +84,9 @@ sets-of-one x =
       runs = of-one (x .runs) i;
     }
 
--- one more at the end, and one more in front
-
+-- one more at the end
 pub sets-more : (xs : List Verdicts) (x : Verdicts) → ofSets (xs ++ (x ∷ [])) ≡ ofSets (ofSets xs ∷ x ∷ [])
 sets-more xs x = sets-append xs (x ∷ []) ∙ ap (λ (y : Verdicts). ofSets (ofSets xs ∷ y ∷ [])) (sets-of-one x)
-
-pub sets-cons : (x : Verdicts) (xs : List Verdicts) → ofSets (x ∷ xs) ≡ ofSets (x ∷ ofSets xs ∷ [])
-sets-cons x xs = sets-append (x ∷ []) xs ∙ ap (λ (y : Verdicts). ofSets (y ∷ ofSets xs ∷ [])) (sets-of-one x)
-
--- from left to right: what a loop has kept of those passed, taken on through the rest, is the verdict of all
-
-pub sets-from : (passed rest : List Verdicts) → foldl (λ a b. ofSets (a ∷ b ∷ [])) (ofSets passed) rest ≡ ofSets (passed ++ rest)
-sets-from passed [] = rw append-nil
-sets-from passed (x ∷ rest) =
-    ap (λ (a : Verdicts). foldl (λ a b. ofSets (a ∷ b ∷ [])) a rest) (sym (sets-more passed x))
-    ∙ sets-from (passed ++ (x ∷ [])) rest
-    ∙ ap ofSets (append-assoc passed (x ∷ []) rest)
-
-pub sets-folded : (xs : List Verdicts) → foldl (λ a b. ofSets (a ∷ b ∷ [])) (ofSets []) xs ≡ ofSets xs
-sets-folded xs = sets-from [] xs
 
 -- one that is not met is the set's verdict, whatever the others say; one that is not yet is, where none is not met
 

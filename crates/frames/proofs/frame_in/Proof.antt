@@ -1,4 +1,4 @@
--- `records::frame::frame_in` meets its contract, value by value.
+-- `frames::frame_in` meets its contract, value by value.
 -- Assumes nothing.
 use mathlib.Core.Path.{refl}
 use Rattle.frames.specs.Frame.{frameIn}

@@ -1,4 +1,4 @@
--- `records::frame::read` meets its contract: the length, then the rules over the values read.
+-- `frames::read` meets its contract: the length, then the rules over the values read.
 -- Assumes nothing.
 use mathlib.Core.Path.{_≡_, sym}
 use mathlib.Core.Bool.{Bool, true, false, _&&_, _||_, not, and-assoc}

@@ -1,4 +1,4 @@
--- `records::interval::check` meets its contract. The loop's invariant: the answer is that of the records from k on, with the number that is due.
+-- `intervals::check` meets its contract. The loop's invariant: the answer is that of the records from k on, with the number that is due.
 -- Assumes nothing.
 use mathlib.Core.Path.{_≡_, ap, sym, _∙_}
 use Prim.Native.Nat.{_-_, _≤_}

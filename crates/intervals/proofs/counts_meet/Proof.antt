@@ -1,4 +1,4 @@
--- `records::interval::counts_meet` meets its contract: it is the rules, one after the other.
+-- `intervals::counts_meet` meets its contract: it is the rules, one after the other.
 -- Assumes nothing.
 use mathlib.Core.Path.{refl}
 use Rattle.numbers.specs.Limits.{intervals, frames}

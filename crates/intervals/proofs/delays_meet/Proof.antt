@@ -1,4 +1,4 @@
--- `records::interval::delays_meet` meets its contract: with nothing delivered the products are 0, and then the rules of the one case are those of
+-- `intervals::delays_meet` meets its contract: with nothing delivered the products are 0, and then the rules of the one case are those of
 -- the other and most 0.
 -- Assumes nothing.
 use mathlib.Core.Path.{_≡_, refl}

@@ -1,4 +1,4 @@
--- `records::interval::interval_in` meets its contract, value by value.
+-- `intervals::interval_in` meets its contract, value by value.
 -- Assumes nothing.
 use mathlib.Core.Path.{refl}
 use Rattle.intervals.specs.Interval.{intervalIn}

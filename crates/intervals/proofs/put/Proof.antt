@@ -1,4 +1,4 @@
--- `records::interval::put` meets its contract: the counts and what stands behind them are the record.
+-- `intervals::put` meets its contract: the counts and what stands behind them are the record.
 -- Assumes nothing.
 use mathlib.Core.Path.{refl}
 use Rattle.numbers.specs.Bytes.{bytesOf}

@@ -1,4 +1,4 @@
--- `records::interval::put_counts` meets its contract: six numbers put one behind the other are their bytes put at once.
+-- `intervals::put_counts` meets its contract: six numbers put one behind the other are their bytes put at once.
 -- Assumes nothing.
 use mathlib.Core.Path.{refl}
 use Rattle.numbers.specs.Bytes.{bytesOf}

@@ -1,5 +1,5 @@
 use Rattle.intervals.proofs.IntervalRecord.{delays-laid}
--- `records::interval::put_delays` meets its contract: four numbers put one behind the other are their bytes put at once, and the last is the maintenance
+-- `intervals::put_delays` meets its contract: four numbers put one behind the other are their bytes put at once, and the last is the maintenance
 -- flag with the spare bytes. Assumes nothing.
 use borrow.Author.Needs.{needs}
 use Rattle.intervals.proofs.put_delays.Statement.{statement}

@@ -1,4 +1,4 @@
--- `records::interval::read_at` meets its contract: the part read is the record.
+-- `intervals::read_at` meets its contract: the part read is the record.
 -- Assumes nothing.
 use mathlib.Core.Path.{ap, _∙_}
 use Rattle.intervals.specs.Interval.{intervalOf}

@@ -1,4 +1,4 @@
--- `records::interval::times` meets its contract: the product of two numbers of 32 bits fits 64.
+-- `intervals::times` meets its contract: the product of two numbers of 32 bits fits 64.
 -- Assumes nothing.
 use Rattle.numbers.proofs.Products.{product-fits}
 use borrow.Author.Needs.{needs}

@@ -1,4 +1,4 @@
--- `records::interval::write` meets its contract: the part that has room is filled whole.
+-- `intervals::write` meets its contract: the part that has room is filled whole.
 -- Assumes nothing.
 use mathlib.Core.Path.{sym, _∙_}
 use native.Mathlib.Omega.{arith}

@@ -1,4 +1,4 @@
--- `records::settings::label_in` meets its contract, value by value.
+-- `settings::label_in` meets its contract, value by value.
 -- Assumes nothing.
 use mathlib.Core.Path.{refl}
 use Rattle.settings.specs.Settings.{labelIn}

@@ -1,4 +1,4 @@
--- `records::settings::objectives_in` meets its contract, value by value.
+-- `settings::objectives_in` meets its contract, value by value.
 -- Assumes nothing.
 use mathlib.Core.Path.{refl}
 use Rattle.settings.specs.Settings.{objectivesIn}

@@ -1,4 +1,4 @@
--- `records::settings::put_label` meets its contract: the two halves are the label settings.
+-- `settings::put_label` meets its contract: the two halves are the label settings.
 -- Assumes nothing.
 use mathlib.Core.Path.{refl}
 use Rattle.numbers.specs.Bytes.{bytesOf}

@@ -7,7 +7,7 @@ use lib.ListN.{length, getD}
 use Rattle.numbers.specs.Bytes.{numberAt}
 use Rattle.settings.specs.declared.LabelSettings.{LabelSettings}
 use Rattle.settings.specs.declared.Settings.{Settings}
--- `records::settings::read` meets its contract: the length, then the rules over the values read.
+-- `settings::read` meets its contract: the length, then the rules over the values read.
 -- Assumes nothing.
 use borrow.Author.Tests.{eq-eqb, ne-eqb}
 use Rattle.settings.specs.Settings.{labelIn, labelMeets, objectivesIn, objectivesMeet, settingsRules, settingsOf, validIf}

@@ -1,4 +1,4 @@
--- `records::settings::same_label` meets its contract, field by field.
+-- `settings::same_label` meets its contract, field by field.
 -- Assumes nothing.
 use mathlib.Core.Path.{refl}
 use Rattle.settings.specs.Settings.{sameFields, sameLabel}

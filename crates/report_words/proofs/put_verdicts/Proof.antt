@@ -3,10 +3,10 @@ use borrow.Author.Needs.{needs}
 use native.Mathlib.Omega.{arith}
 use lib.ListN.{length-set}
 use Rattle.words.specs.Written.{written}
-use Rattle.summary_words.specs.ReportList.{verdictWords}
+use Rattle.report_words.specs.ReportList.{verdictWords}
 use Rattle.words.proofs.Writing.{written-over}
-use Rattle.summary_words.proofs.report_list.put_verdicts.Statement.{statement}
-use Rattle.summary_words.proofs.report_list.put_verdicts.Tie as tie
+use Rattle.report_words.proofs.put_verdicts.Statement.{statement}
+use Rattle.report_words.proofs.put_verdicts.Tie as tie
 
 slice-write-words-2 : tie.Need-slice-write-words-2
 slice-write-words-2 c = simp length-set (omega arith)

@@ -2,10 +2,10 @@
 use mathlib.Core.Path.{_∙_, ap}
 use borrow.Author.Needs.{needs}
 use Rattle.words.specs.Written.{written}
-use Rattle.summary_words.specs.ReportList.{sumWords, compositeWords}
-use Rattle.summary_words.proofs.Judged.{report-written}
-use Rattle.summary_words.proofs.report_list.put_report.Statement.{statement}
-use Rattle.summary_words.proofs.report_list.put_report.Tie as tie
+use Rattle.report_words.specs.ReportList.{sumWords, compositeWords}
+use Rattle.report_words.proofs.Judged.{report-written}
+use Rattle.report_words.proofs.put_report.Statement.{statement}
+use Rattle.report_words.proofs.put_report.Tie as tie
 
 returns : tie.Need-returns
 returns c =

@@ -4,9 +4,9 @@ use borrow.Author.Needs.{needs}
 use native.Mathlib.Omega.{arith}
 use Rattle.numbers.specs.Limits.{pairs}
 use Rattle.sets.proofs.Places.{verdicts-place}
-use Rattle.summary_words.proofs.Judged.{verdicts-settings, verdicts-none, verdicts-many, verdicts-length, verdicts-short, verdicts-refused, verdicts-answered}
-use Rattle.summary_words.proofs.report_list.mip_verdicts.Statement.{statement}
-use Rattle.summary_words.proofs.report_list.mip_verdicts.Tie as tie
+use Rattle.report_words.proofs.Judged.{verdicts-settings, verdicts-none, verdicts-many, verdicts-length, verdicts-short, verdicts-refused, verdicts-answered}
+use Rattle.report_words.proofs.mip_verdicts.Statement.{statement}
+use Rattle.report_words.proofs.mip_verdicts.Tie as tie
 
 returns : tie.Need-returns
 returns c = verdicts-settings _ _ _ _ _ (sym (c .before .before .before .read .ensures) ∙ c .before .enum-told2 .given .1) (c .refused .ensures)

@@ -22,7 +22,7 @@ use Rattle.sets.specs.Sets.{judgedOf}
 use Rattle.sets.specs.declared.Judged.{Judged}
 use Rattle.sets.proofs.Going.{gone-over}
 use Rattle.words.specs.Written.{over, written}
-use Rattle.summary_words.specs.ReportList.{countWords, sumWords, compositeWords, figureWords, verdictWords, reportTold, reportWord, reportWords, ReportLeft, verdictsTold, verdictsWord, verdictsWords, VerdictsLeft}
+use Rattle.report_words.specs.ReportList.{countWords, sumWords, compositeWords, figureWords, verdictWords, reportTold, reportWord, reportWords, ReportLeft, verdictsTold, verdictsWord, verdictsWords, VerdictsLeft}
 use Rattle.words.specs.Word.{wordOf}
 use Rattle.words.proofs.Writing.{written-over}
 

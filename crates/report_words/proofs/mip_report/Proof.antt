@@ -3,9 +3,9 @@ use mathlib.Core.Path.{sym, _∙_}
 use borrow.Author.Needs.{needs}
 use native.Mathlib.Omega.{arith}
 use Rattle.reports.proofs.Places.{report-place}
-use Rattle.summary_words.proofs.Judged.{report-length, report-short, report-refused, report-answered}
-use Rattle.summary_words.proofs.report_list.mip_report.Statement.{statement}
-use Rattle.summary_words.proofs.report_list.mip_report.Tie as tie
+use Rattle.report_words.proofs.Judged.{report-length, report-short, report-refused, report-answered}
+use Rattle.report_words.proofs.mip_report.Statement.{statement}
+use Rattle.report_words.proofs.mip_report.Tie as tie
 
 returns : tie.Need-returns
 returns c = report-length _ _ _ (c .before .if1 .taken) (c .refused .ensures)

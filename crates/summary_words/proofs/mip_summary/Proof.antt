@@ -3,8 +3,8 @@ use mathlib.Core.Path.{ap, sym, _∙_}
 use borrow.Author.Needs.{needs}
 use Rattle.summary_words.specs.SummaryList.{madeWord}
 use Rattle.summary_words.proofs.Summarised.{summary-fits, summary-word}
-use Rattle.summary_words.proofs.summary_list.mip_summary.Statement.{statement}
-use Rattle.summary_words.proofs.summary_list.mip_summary.Tie as tie
+use Rattle.summary_words.proofs.mip_summary.Statement.{statement}
+use Rattle.summary_words.proofs.mip_summary.Tie as tie
 
 summary-requires : tie.Need-summary-requires
 summary-requires c κs = search needs

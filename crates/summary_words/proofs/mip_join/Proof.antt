@@ -3,8 +3,8 @@ use mathlib.Core.Path.{ap, sym, _∙_}
 use borrow.Author.Needs.{needs}
 use Rattle.summary_words.specs.SummaryList.{joinedWord}
 use Rattle.summary_words.proofs.Summarised.{join-fits, join-word}
-use Rattle.summary_words.proofs.summary_list.mip_join.Statement.{statement}
-use Rattle.summary_words.proofs.summary_list.mip_join.Tie as tie
+use Rattle.summary_words.proofs.mip_join.Statement.{statement}
+use Rattle.summary_words.proofs.mip_join.Tie as tie
 
 join-requires : tie.Need-join-requires
 join-requires c κs = search needs

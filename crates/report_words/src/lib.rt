@@ -1,4 +1,4 @@
-// The report of a period and the verdicts of a set of pairs, as words.
+// What the C interface does of reports and verdicts: each function answers 0 and its words, or its refusal as one word; a refusal writes nothing.
 use numbers::limits;
 use numbers::refusal::Fault;
 use numbers::refusal::Refusal;
@@ -15,7 +15,7 @@ ghost use lib.ListN.{length};
 ghost use Prim.Native.Nat.{_≤_};
 ghost use Rattle.numbers.specs.Refusals.{refusal};
 ghost use Rattle.words.specs.Written.{written, over};
-ghost use Rattle.summary_words.specs.ReportList.{countWords, sumWords, compositeWords, figureWords, verdictWords, ReportLeft, VerdictsLeft};
+ghost use Rattle.report_words.specs.ReportList.{countWords, sumWords, compositeWords, figureWords, verdictWords, ReportLeft, VerdictsLeft};
 ghost use Rattle.words.specs.Word.{wordOf};
 
 // The counts of a report.
