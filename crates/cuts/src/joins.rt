@@ -1,6 +1,9 @@
 // Stretches of one interval each, joined from left to right, from right to left and in pairs: each gives the bytes of the uncut stretch.
-use crate::circuit;
-use crate::circuit::RECORDS;
+use crate::stretches;
+use cases::circuit;
+use cases::circuit::RECORDS;
+use cases::lines;
+use cases::printing;
 use joining::Joined;
 use making::Made;
 use numbers::bytes;
@@ -9,7 +12,7 @@ ghost use Prim.Native.Nat.{_≤_};
 // The summary of the records from the `a`-th on to before the `b`-th.
 fn stretch(s: &[u8], records: &[u8], a: usize, b: usize) -> [u8; 1024] {
     let mut out = [0u8; 1024];
-    circuit::put_summary(s, records, a, b, &mut out, 0);
+    stretches::put_summary(s, records, a, b, &mut out, 0);
     out
 }
 
@@ -71,81 +74,46 @@ fn in_pairs(s: &[u8], records: &[u8], count: usize) -> [u8; 1024]
     and_after(s, records, held, count / 2 * 2, count)
 }
 
-fn same(a: &[u8], b: &[u8]) -> bool {
-    let mut all = a.len() == b.len();
-    for k in 0..a.len() {
-        all = all & (bytes::get_u8(a, k) == bytes::get_u8(b, k));
-    }
-    all
+fn show_same(whole: &[u8], other: [u8; 1024]) {
+    printing::bit(check::same(whole, &other));
 }
 
 fn grouped(s: &[u8], records: &[u8], count: usize)
     requires { ⌜ count ≤ 72 ⌝ }
 {
     let whole = stretch(s, records, 0, count);
-    let left = from_left(s, records, count);
-    let right = from_right(s, records, count);
-    let pairs = in_pairs(s, records, count);
-    printing::text(b" ");
-    printing::bit(same(&whole, &left));
-    printing::bit(same(&whole, &right));
-    printing::bit(same(&whole, &pairs));
+    printing::space();
+    show_same(&whole, from_left(s, records, count));
+    show_same(&whole, from_right(s, records, count));
+    show_same(&whole, in_pairs(s, records, count));
     printing::number(bytes::get_u32(&whole, 4) as u64);
-    printing::text(b"\n");
+    printing::end();
 }
 
-fn line(letters: &[u8], n: u8, p: u8) {
-    let s = circuit::settings(n, p);
+// Letters, n and p.
+pub fn line(case: &[u8]) {
+    let letters = lines::word(case, 1);
+    let s = circuit::settings_at(case, 2);
     let mut records = [0u8; RECORDS];
     circuit::put_records(&mut records, letters);
-    printing::text(letters);
-    printing::number(n as u64);
-    printing::number(p as u64);
+    printing::text(lines::rest(case, 1));
     if letters.len() <= 72 {
         grouped(&s, &records, letters.len());
     }
 }
 
-// An empty summary at a number.
-fn empty(first: u64) {
-    let s = circuit::settings(3, 2);
-    let mut out = [0u8; 1024];
-    let none = [0u8; 0];
-    printing::text(b"no records from");
-    printing::number(first);
-    match making::summary(&s, first, &none, &mut out, 0) {
-        Made::Written => {
-            printing::text(b": written");
-        }
+fn show_made(m: Made) {
+    match m {
+        Made::Written => printing::text(b": written"),
         Made::Refused(r) => printing::refused(r),
     }
-    printing::text(b"\n");
+    printing::end();
 }
 
-pub fn run() {
-    printing::line(
-        b"joined from left, from right, in pairs: the same bytes; number after the last",
-    );
-    line(b"HHH", 3, 2);
-    line(b"LHHL", 3, 2);
-    line(b"LhHL", 3, 2);
-    line(b"HLHLLHHHLHN", 1, 0);
-    line(b"HHLLHHLLH", 2, 0);
-    line(b"LHHHHLLLLHhHHL", 4, 0);
-    line(b"LHHHHLLLLHhHHL", 4, 2);
-    line(b"LHHHHLLLLHhHHL", 4, 3);
-    line(
-        b"HHHHHHHHHHHHHHHHHHHHHHHHHHHHHHHHHHHHHHHHHHHHHHHHHHHHHHHHHHHHHHHHLHHL",
-        64,
-        2,
-    );
-    line(
-        b"LHHHHHHHHHHHHHHHHHHHHHHHHHHHHHHHHHHHHHHHHHHHHHHHHHHHHHHHHHHHHHHHHHHHL",
-        64,
-        63,
-    );
-    line(b"hhhllnhhh", 3, 2);
-    line(b"", 3, 2);
-    empty(3_000_000);
-    empty(3_000_001);
+// No records from the number that is the fourth word on.
+pub fn none(case: &[u8]) {
+    let s = circuit::settings(3, 2);
+    let mut out = [0u8; 1024];
+    printing::text(lines::rest(case, 1));
+    show_made(making::summary(&s, lines::get_u64(case, 4), b"", &mut out, 0));
 }

@@ -1,11 +1,36 @@
-// Runs document 01's edges on summaries, reports and verdicts on the compiled code and prints what they give; `stdout` is what they must give.
-mod circuit;
+// Runs document 01's edges on summaries, reports and verdicts on the compiled code and prints what they give: `stdin` has a case in each line, and `stdout` is what
+// they must give. The first letter of a case says what it is.
 mod joins;
 mod periods_of;
 mod sets_of;
+mod stretches;
+
+use cases::lines;
+use cases::printing;
+use libc::STDIN_FILENO;
+
+fn one(case: &[u8]) {
+    match lines::letter(case, 0) {
+        b't' => printing::line(lines::rest(case, 1)),
+        b'j' => joins::line(case),
+        b'n' => joins::none(case),
+        b'r' => periods_of::line(case),
+        b'o' => periods_of::objective(case),
+        b's' => sets_of::two(case),
+        b'p' => sets_of::pairs(case),
+        b'f' => sets_of::fifteen_of_seventeen(case),
+        _ => (),
+    }
+}
+
+fn run(text: &[u8]) {
+    for k in 0..lines::count(text) {
+        one(lines::line(text, k));
+    }
+}
 
 fn main() {
-    joins::run();
-    periods_of::run();
-    sets_of::run();
+    let mut text = [0u8; 4096];
+    let n = io::read_full(STDIN_FILENO, &mut text);
+    run(&text[..n]);
 }

@@ -1,43 +1,38 @@
 // Reports of a period between two stretches, and its verdicts.
-use crate::circuit;
-use crate::circuit::RECORDS;
+use crate::stretches;
+use cases::circuit;
+use cases::circuit::RECORDS;
+use cases::lines;
+use cases::printing;
 use numbers::bytes;
 use reports::Reported;
 use sets::Judged;
 use tallies::Period;
 use verdicts::Verdict;
 use verdicts::Verdicts;
+ghost use Prim.Native.Nat.{_≤_};
 
 fn show_loss(r: Period) {
     let t = r.loss;
     let a = t.available;
     let u = t.undecided;
-    printing::number(r.length as u64);
-    printing::number(r.maintenance as u64);
-    printing::text(b" |");
-    printing::number(a.count as u64);
-    printing::number(t.unavailable as u64);
-    printing::number(u.count as u64);
-    printing::text(b" |");
-    printing::number(a.high as u64);
-    printing::number(a.runs as u64);
+    printing::two(r.length as u64, r.maintenance as u64);
+    printing::bar();
+    printing::three(a.count as u64, t.unavailable as u64, u.count as u64);
+    printing::bar();
+    printing::two(a.high as u64, a.runs as u64);
 }
 
 fn show_rest(r: Period) {
     let t = r.loss;
     let a = t.available;
     let c = r.composite;
-    printing::text(b" |");
-    printing::number(a.sent);
-    printing::number(a.lost);
-    printing::text(b" |");
-    printing::number(a.sum);
-    printing::number(a.least as u64);
-    printing::number(a.most as u64);
-    printing::text(b" |");
-    printing::number(c.available as u64);
-    printing::number(c.unavailable as u64);
-    printing::number(c.undecided as u64);
+    printing::bar();
+    printing::two(a.sent, a.lost);
+    printing::bar();
+    printing::three(a.sum, a.least as u64, a.most as u64);
+    printing::bar();
+    printing::three(c.available as u64, c.unavailable as u64, c.undecided as u64);
 }
 
 fn show_report(three: &[u8]) {
@@ -62,7 +57,7 @@ pub fn show_verdicts(v: Verdicts) {
     let mean = v.mean;
     let high = v.high;
     let runs = v.runs;
-    printing::text(b" ");
+    printing::space();
     show_verdict(availability);
     show_verdict(composite);
     show_verdict(loss);
@@ -80,114 +75,72 @@ pub fn show_set(s: &[u8], pairs: u64, summaries: &[u8]) {
     }
 }
 
-// The three summaries of a circuit, cut before the `a`-th and before the `b`-th interval, at `at`.
-pub fn put_three(
-    s: &[u8],
-    records: &[u8],
-    a: usize,
-    b: usize,
-    count: usize,
-    out: &mut [u8],
-    at: usize,
-) {
-    if at <= 65536 {
-        circuit::put_summary(s, records, 0, a, out, at);
-        circuit::put_summary(s, records, a, b, out, at + 1024);
-        circuit::put_summary(s, records, b, count, out, at + 2048);
-    }
+fn put_cut(s: &[u8], records: &[u8], a: usize, b: usize, count: usize, out: &mut [u8], at: usize)
+    requires { ⌜ at ≤ 3072 ⌝ }
+{
+    stretches::put_summary(s, records, 0, a, out, at);
+    stretches::put_summary(s, records, a, b, out, at + 1024);
+    stretches::put_summary(s, records, b, count, out, at + 2048);
 }
 
-fn show(s: &[u8], records: &[u8], a: usize, b: usize, count: usize) {
-    let mut three = [0u8; 3072];
-    put_three(s, records, a, b, count, &mut three, 0);
-    show_report(&three);
-    printing::text(b" |");
-    show_set(s, 1, &three);
-    printing::text(b"\n");
-}
-
-// The report of the intervals from the `a`-th on to before the `b`-th, and its verdicts.
-fn line(letters: &[u8], n: u8, p: u8, a: usize, b: usize) {
-    let s = circuit::settings(n, p);
+// The three summaries of the letters, cut before the `a`-th and before the `b`-th interval, from `at` on.
+pub fn put_three(s: &[u8], letters: &[u8], a: usize, b: usize, out: &mut [u8], at: usize)
+    requires { ⌜ at ≤ 3072 ⌝ }
+{
     let mut records = [0u8; RECORDS];
     circuit::put_records(&mut records, letters);
-    printing::text(letters);
-    printing::number(a as u64);
-    printing::number(b as u64);
-    printing::text(b":");
-    show(&s, &records, a, b, letters.len());
+    put_cut(s, &records, a, b, letters.len(), out, at);
 }
 
-// The same with one objective at another value.
-fn objective(name: &[u8], letters: &[u8], p: u8, at: usize, value: u32) {
+fn show(s: &[u8], three: &[u8]) {
+    show_report(three);
+    printing::bar();
+    show_set(s, 1, three);
+    printing::end();
+}
+
+// n, p, letters, a and b: the report of the intervals from the `a`-th on to before the `b`-th, and its verdicts.
+pub fn line(case: &[u8]) {
+    let s = circuit::settings_at(case, 1);
+    let mut three = [0u8; 3072];
+    put_three(
+        &s,
+        lines::word(case, 3),
+        lines::get_usize(case, 4),
+        lines::get_usize(case, 5),
+        &mut three,
+        0,
+    );
+    printing::head(lines::rest(case, 3));
+    show(&s, &three);
+}
+
+// Settings with n = 3, the first three objectives at one half and the mean delay at 1,000 ns, and then one objective at another value.
+fn with_objective(p: u8, at: usize, value: u32) -> [u8; 64] {
     let mut s = circuit::settings(3, p);
     bytes::put_u32(&mut s, 24, 500_000);
     bytes::put_u32(&mut s, 28, 500_000);
     bytes::put_u32(&mut s, 32, 500_000);
     bytes::put_u32(&mut s, 36, 1_000);
     bytes::put_u32(&mut s, at, value);
-    let mut records = [0u8; RECORDS];
-    circuit::put_records(&mut records, letters);
-    printing::text(letters);
-    printing::text(b" ");
-    printing::text(name);
-    printing::number(value as u64);
-    printing::text(b":");
-    verdict_line(&s, &records, letters.len());
+    s
 }
 
-fn verdict_line(s: &[u8], records: &[u8], count: usize) {
+// p, an objective's place in settings, letters, the objective's name and its value: the verdicts on all of the intervals.
+pub fn objective(case: &[u8]) {
+    let s = with_objective(
+        lines::get_u8(case, 1),
+        lines::get_usize(case, 2),
+        lines::get_u32(case, 5),
+    );
+    printing::head(lines::rest(case, 3));
+    verdict_line(&s, lines::word(case, 3));
+}
+
+// The verdicts on all of the intervals.
+pub fn verdict_line(s: &[u8], letters: &[u8]) {
     let mut three = [0u8; 3072];
-    put_three(s, records, 0, count, count, &mut three, 0);
+    put_three(s, letters, 0, letters.len(), &mut three, 0);
     show_set(s, 1, &three);
-    printing::text(b"\n");
-}
-
-pub fn run() {
-    printing::line(
-        b"reports: length, maintenance | available, unavailable, undecided | high, runs | sent, lost | sum, least, most | composite | verdicts",
-    );
-    line(b"HHHLLL", 3, 2, 0, 6);
-    line(b"HHH", 3, 2, 1, 2);
-    line(b"HHH", 3, 2, 0, 2);
-    line(b"HH", 3, 2, 0, 2);
-    line(b"LHHL", 3, 2, 0, 4);
-    line(b"LHHL", 3, 2, 2, 4);
-    line(b"LHHL", 3, 0, 0, 4);
-    line(b"LhHL", 3, 2, 0, 4);
-    line(b"hhhllnhhh", 3, 2, 0, 9);
-    line(b"NNNN", 3, 2, 0, 4);
-    line(b"HHHLLHL", 3, 2, 5, 5);
-    line(b"", 3, 2, 0, 0);
-    printing::line(b"objectives: availability, composite, loss, mean, high, runs");
-    objective(b"availability", b"LLLLLLLLLLLLHHHLLLLL", 2, 24, 850_000);
-    objective(b"availability", b"LLLLLLLLLLLLHHHLLLLL", 2, 24, 850_001);
-    objective(
-        b"availability",
-        b"LLLLLLLLLLLLHHHHHLLLlllLL",
-        2,
-        24,
-        772_727,
-    );
-    objective(b"availability", b"HHHLLLLLLLLLLLLLLLl", 2, 24, 833_333);
-    objective(b"availability", b"HHHHLLLLLLLLLLLLLLLLL", 2, 24, 0);
-    objective(b"availability", b"HHHHLLLLLLLLLLLLLLLLL", 2, 24, 1_000_000);
-    objective(b"availability", b"LLLL", 2, 24, 1_000_000);
-    objective(b"loss", b"LHHL", 2, 32, 499_999);
-    objective(b"loss", b"LHHL", 2, 32, 500_000);
-    objective(b"loss", b"LHHL", 2, 32, 0);
-    objective(b"loss", b"LHHL", 2, 32, 1_000_000);
-    objective(b"loss", b"NNNN", 2, 32, 0);
-    objective(b"mean", b"LHHL", 2, 36, 999);
-    objective(b"mean", b"LHHL", 2, 36, 1_000);
-    objective(b"mean", b"LHHL", 2, 36, 0);
-    objective(b"mean", b"LHHL", 2, 36, 1_000_000_000);
-    objective(b"mean", b"NNNN", 2, 36, 0);
-    objective(b"high", b"LHHL", 2, 40, 1);
-    objective(b"high", b"LHHL", 2, 40, 2);
-    objective(b"high", b"LHHL", 2, 40, 4_294_967_295);
-    objective(b"runs", b"LHHL", 2, 44, 0);
-    objective(b"runs", b"LHHL", 2, 44, 1);
-    objective(b"runs", b"LHHL", 0, 44, 0);
-    objective(b"runs", b"LHHL", 0, 44, 1);
+    printing::end();
 }

@@ -15,8 +15,8 @@ abbrev μ-loop : tie.MeasureT-loop
 loop-holds : tie.Need-loop-holds Inv-loop μ-loop
 loop-holds c = search needs
 
-with-u8-requires : tie.Need-with-u8-requires Inv-loop μ-loop
-with-u8-requires c κs = search needs
+with-one-requires : tie.Need-with-one-requires Inv-loop μ-loop
+with-one-requires c κs = search needs
 
 add-at : tie.Need-add-at Inv-loop μ-loop
 add-at c = search needs
@@ -33,4 +33,4 @@ returns c = search needs
 pub spare-bits-spec : {M : Type 1} → statement M
 spare-bits-spec =
     tie.close
-    (tie.spec Inv-loop μ-loop loop-holds with-u8-requires add-at loop-less loop-again returns)
+    (tie.spec Inv-loop μ-loop loop-holds with-one-requires add-at loop-less loop-again returns)

@@ -1,4 +1,4 @@
-// What programs print that run the edges.
+// What the programs print.
 use libc::STDOUT_FILENO;
 use numbers::refusal;
 use numbers::refusal::Refusal;
@@ -7,15 +7,43 @@ pub fn text(s: &[u8]) {
     io::write_all(STDOUT_FILENO, s);
 }
 
+pub fn end() {
+    text(b"\n");
+}
+
+pub fn space() {
+    text(b" ");
+}
+
+pub fn bar() {
+    text(b" |");
+}
+
 pub fn line(s: &[u8]) {
     text(s);
-    text(b"\n");
+    end();
+}
+
+// What a line is about.
+pub fn head(s: &[u8]) {
+    text(s);
+    text(b":");
 }
 
 // A number behind a space.
 pub fn number(n: u64) {
-    text(b" ");
+    space();
     io::print_decimal(STDOUT_FILENO, n);
+}
+
+pub fn two(a: u64, b: u64) {
+    number(a);
+    number(b);
+}
+
+pub fn three(a: u64, b: u64, c: u64) {
+    two(a, b);
+    number(c);
 }
 
 // A number with nothing before it.

@@ -1,11 +1,11 @@
--- `edges::labels_edges::put_records` ends: it goes over each letter, and leaves the length.
+-- `cases::circuit::put_records` ends: it goes over each letter, and leaves the length.
 -- Assumes nothing.
 use mathlib.Core.Path.{_≡_}
 use lib.ListN.{length}
 use Prim.Native.Nat.{_-_}
 use borrow.Author.Needs.{needs}
-use Rattle.edges.proofs.labels_edges.put_records.Statement.{statement}
-use Rattle.edges.proofs.labels_edges.put_records.Tie as tie
+use Rattle.cases.proofs.circuit.put_records.Statement.{statement}
+use Rattle.cases.proofs.circuit.put_records.Tie as tie
 
 abbrev Inv-loop : tie.InvT-loop
 Inv-loop records₀ letters k₀ k-end records k = length records ≡ length records₀
