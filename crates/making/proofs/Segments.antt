@@ -2,12 +2,13 @@
 -- low marks has not; it is kept as a run of high marks. An interval more makes it longer, or is the first of the next.
 -- Assumes nothing.
 use mathlib.Core.Path.{_≡_, refl, ap, sym, _∙_}
-use mathlib.Core.Bool.{Bool, true, false, _&&_, Bool·beq, and-eq-true-iff}
+use mathlib.Core.Bool.{Bool, true, false, cond, _&&_, Bool·beq, and-eq-true-iff}
 use mathlib.Core.List.{List}
 use Prim.Native.Nat.{ℕ, _+_, _-_, _≤_, _<_}
 use native.Mathlib.Omega.{arith}
 use Rattle.numbers.specs.Limits.{intervals}
 use Rattle.numbers.specs.Many.{recordAt}
+use Rattle.settings.specs.Settings.{labelMeets}
 use Rattle.settings.specs.declared.LabelSettings.{LabelSettings}
 use Rattle.intervals.specs.Interval.{intervalOf}
 use Rattle.intervals.specs.Sequence.{readsFrom}
@@ -16,8 +17,10 @@ use Rattle.intervals.specs.declared.IntervalRead.{IntervalRead}
 use Rattle.intervals.proofs.IntervalRecord.{IntervalValid, interval-valid}
 use Rattle.labels.specs.Marked.{countsOf, lossMark, compositeMark, bothHigh}
 use Rattle.labels.specs.declared.marks.Both.{Both}
+use Rattle.runs.specs.declared.middles.Middle.{Middle}
 use Rattle.runs.specs.declared.run.Run.{Run}
 use Rattle.runs.specs.Runs.{single, loadOf, gross, headroomOf, glue, same}
+use Rattle.runs.specs.Middles.{shut, times}
 use Rattle.runs.specs.Valid.{RunValid, RunsFit, EdgesFor}
 use Rattle.runs.proofs.Fitting.{runs-fit}
 use Rattle.runs.proofs.Keeping.{single-valid, glue-valid}
@@ -25,12 +28,14 @@ use Rattle.runs.proofs.Tying.{split-tie}
 use Rattle.tallies.specs.Seen.{markedAs, lossSeen, compositeSeen}
 use Rattle.rules.proofs.Marking.{marked-sound}
 use Rattle.tracks.specs.declared.Track.{Track}
-use Rattle.tracks.specs.declared.Track.the-variants.{Nothing, One}
+use Rattle.tracks.specs.declared.Track.the-variants.{Nothing, One, Many}
 use Rattle.tracks.specs.Tracks.{push}
 use Rattle.tracks.specs.Valid.{TrackValid, PushFits}
-use Rattle.tracks.proofs.Joining.{push-glue}
+use Rattle.tracks.proofs.Deciding.{beq-yes}
+use Rattle.tracks.proofs.Joining.{push-glue, push-many}
 use Rattle.tracks.proofs.Keeping.{push-valid}
-use Rattle.making.specs.Making.{onwards, toned, Begun}
+use Rattle.making.specs.Making.{onwards, toned, Held, Begun, Gone}
+use Rattle.making.specs.declared.Gathered.{Gathered}
 use Rattle.making.proofs.Gathering.{on-next}
 
 -- an interval as a segment
@@ -96,15 +101,6 @@ pub segment-next :
     push n p (push n p a (toned h g)) (toned m (single (markedAs true v))) ≡ push n p (push n p a (toned h g)) (single (markedAs m v))
 segment-next n p a m h g v = ap (push n p (push n p a (toned h g))) (toned-single m v)
 
--- what a loop holds after k intervals: both tracks before the segment, and the segment
-pub record Held (l : LabelSettings) (a b : Track) (g : Run) (k : ℕ) : Type 0 where
-  pub before : ℕ
-  pub lengths : before + g .len ≡ k
-  pub loss : TrackValid (l .n) (l .p) before a
-  pub composite : TrackValid (l .n) (l .p) before b
-  pub segment : RunValid (l .p) g
-  pub high : g .mark ≡ true
-
 pub held-begun : (l : LabelSettings) (first : ℕ) (g : Run) → Begun l first g → Held l Nothing Nothing g 1
 unfolding TrackValid
 held-begun l first g w = record { before = 0; lengths = omega (arith, w .one); loss = refl; composite = refl; segment = w .segment; high = w .high }
@@ -146,18 +142,22 @@ module _ (l : LabelSettings) (a b : Track) (g : Run) (k : ℕ) (w : Held l a b g
           high = seen-high v;
         }
 
+-- a track of several runs that stays, and with a run behind it
+
+pub several-kept : (f : Run) {m m′ : Middle} {t t′ : Run} → m′ ≡ m → t′ ≡ t → Many f m′ t′ ≡ Many f m t
+several-kept f em et = cc
+
+pub several-next :
+    (n p : ℕ) (f : Run) (m : Middle) (t r : Run) {m′ : Middle} {t′ : Run} →
+    m′ ≡ cond (same t r) m (times m (shut n p t)) → t′ ≡ cond (same t r) (glue p t r) r → Many f m′ t′ ≡ push n p (Many f m t) r
+several-next n p f m t r em et = cc (push-many n p f m t r)
+
 -- the marks have not changed
 pub kept-marks :
     (m h : Both) → Bool·beq (m .loss) (h .loss) && Bool·beq (m .composite) (h .composite) ≡ true → (m .loss ≡ h .loss) × (m .composite ≡ h .composite)
 kept-marks m h e =
     let f = and-eq-true-iff (Bool·beq (m .loss) (h .loss)) (Bool·beq (m .composite) (h .composite)) .0 e in
-    (agree (m .loss) (h .loss) (f .0), agree (m .composite) (h .composite) (f .1))
-  where
-    agree : (x y : Bool) → Bool·beq x y ≡ true → x ≡ y
-    agree true true z = refl
-    agree true false z = cc
-    agree false true z = cc
-    agree false false z = refl
+    (beq-yes (m .loss) (h .loss) (f .0), beq-yes (m .composite) (h .composite) (f .1))
 
 -- a track with the segment behind it, after an interval that makes the segment longer, and after one that begins the next
 
@@ -173,24 +173,49 @@ next-to :
     push n p a′ (toned h′ g′) ≡ push n p (push n p a (toned h g)) (single (markedAs m v))
 next-to n p a g h m v ea et eg eh = cc (segment-next n p a m h g v)
 
--- the loop over the records before the k-th: the records from it on go on from what it holds
-pub record Going (l : LabelSettings) (s : List ℕ) (n first : ℕ) (start : Run) (begun : Both) (a b : Track) (g : Run) (h : Both) (next k : ℕ) : Type 0 where
+-- what is made of n records, the first of which is the segment `start` with these marks
+abbrev pub ofFirst : LabelSettings → List ℕ → ℕ → ℕ → Run → Both → Gathered
+ofFirst l s n first start begun =
+    onwards l first (first + 1) 1 (One (toned (begun .loss) start)) (One (toned (begun .composite) start)) (readsFrom (n - 1) s 1)
+
+-- what is made of the records from the k-th on, behind two tracks and a segment with these marks
+abbrev pub ofRest : LabelSettings → List ℕ → ℕ → ℕ → Track → Track → Run → Both → ℕ → ℕ → Gathered
+ofRest l s n first a b g h next k =
+    onwards l first next k (push (l .n) (l .p) a (toned (h .loss) g)) (push (l .n) (l .p) b (toned (h .composite) g)) (readsFrom (n - k) s k)
+
+-- the loop over the records before the k-th: what is made of all, x, is what is made of the rest
+pub record Going (l : LabelSettings) (s : List ℕ) (n first : ℕ) (x : Gathered) (a b : Track) (g : Run) (h : Both) (next k : ℕ) : Type 0 where
   pub numbered : next ≡ first + k
   pub few : next ≤ intervals
   pub held : Held l a b g k
-  pub goes-on :
-      onwards l first (first + 1) 1 (One (toned (begun .loss) start)) (One (toned (begun .composite) start)) (readsFrom (n - 1) s 1)
-      ≡ onwards l first next k (push (l .n) (l .p) a (toned (h .loss) g)) (push (l .n) (l .p) b (toned (h .composite) g)) (readsFrom (n - k) s k)
+  pub goes-on : x ≡ ofRest l s n first a b g h next k
 
 pub going-begun :
-    (l : LabelSettings) (s : List ℕ) (n first : ℕ) (start : Run) (begun : Both) → Begun l first start → Going l s n first start begun Nothing Nothing start begun (first + 1) 1
+    (l : LabelSettings) (s : List ℕ) (n first : ℕ) (start : Run) (begun : Both) → Begun l first start → Going l s n first (ofFirst l s n first start begun) Nothing Nothing start begun (first + 1) 1
 unfolding push
 going-begun l s n first start begun w =
     record { numbered = refl; few = omega (arith, w .known); held = held-begun l first start w; goes-on = refl }
 
+-- a loop goes on from what another holds, and makes what that one is to make
+pub going-gone :
+    (l : LabelSettings) (s : List ℕ) (n first : ℕ) (a b : Track) (g : Run) (h : Both) (next k : ℕ) → Gone l first a b g next k →
+    Going l s n first (ofRest l s n first a b g h next k) a b g h next k
+going-gone l s n first a b g h next k w = record { numbered = w .numbered; few = w .few; held = w .held; goes-on = refl }
+
+pub gone-going :
+    (l : LabelSettings) (s : List ℕ) (n first : ℕ) (x : Gathered) (a b : Track) (g : Run) (h : Both) (next k : ℕ) {a′ b′ : Track} →
+    Going l s n first x a b g h next k → labelMeets l ≡ true → a ≡ a′ → b ≡ b′ → Gone l first a′ b′ g next k
+gone-going l s n first x a b g h next k w valid ea eb =
+    record { valid = valid; numbered = w .numbered; few = w .few; held = rw (← ea, ← eb) (w .held) }
+
+pub made-on :
+    (l : LabelSettings) (s : List ℕ) (n first : ℕ) (x : Gathered) (a b : Track) (g : Run) (h : Both) (next k : ℕ) {a′ b′ : Track} {r : Gathered} →
+    Going l s n first x a b g h next k → a ≡ a′ → b ≡ b′ → r ≡ ofRest l s n first a′ b′ g h next k → r ≡ x
+made-on l s n first x a b g h next k w ea eb e = cc (w .goes-on)
+
 module _
-    (l : LabelSettings) (s : List ℕ) (n first : ℕ) (start : Run) (begun : Both) (a b : Track) (g : Run) (h : Both) (next k : ℕ)
-    (w : Going l s n first start begun a b g h next k)
+    (l : LabelSettings) (s : List ℕ) (n first : ℕ) (x : Gathered) (a b : Track) (g : Run) (h : Both) (next k : ℕ)
+    (w : Going l s n first x a b g h next k)
     (v : Interval) (more : k < n) (e : intervalOf (recordAt s 48 k) ≡ IntervalRead.Valid v) (due : v .number ≡ next)
   where
     pub going-valid : IntervalValid v
@@ -200,7 +225,7 @@ module _
     going-room = omega (arith, going-valid .number-fact, due)
 
     stepped :
-        onwards l first (first + 1) 1 (One (toned (begun .loss) start)) (One (toned (begun .composite) start)) (readsFrom (n - 1) s 1)
+        x
         ≡ onwards l first (next + 1) (k + 1)
         (push (l .n) (l .p) (push (l .n) (l .p) a (toned (h .loss) g)) (single (lossSeen l v)))
         (push (l .n) (l .p) (push (l .n) (l .p) b (toned (h .composite) g)) (single (compositeSeen l v)))
@@ -209,30 +234,30 @@ module _
         w .goes-on
         ∙ on-next l first n k next s (push (l .n) (l .p) a (toned (h .loss) g)) (push (l .n) (l .p) b (toned (h .composite) g)) v more e due
 
-    module _ {a′ b′ : Track} {g′ x : Run} {h′ m : Both} (ex : x ≡ single (markedAs true v)) (em : m ≡ bothHigh l (countsOf v)) where
+    module _ {a′ b′ : Track} {g′ y : Run} {h′ m : Both} (ey : y ≡ single (markedAs true v)) (em : m ≡ bothHigh l (countsOf v)) where
       pub going-longer :
           Bool·beq (m .loss) (h .loss) && Bool·beq (m .composite) (h .composite) ≡ true →
-          a′ ≡ a → b′ ≡ b → g′ ≡ glue (l .p) g x → h′ ≡ h → Going l s n first start begun a′ b′ g′ h′ (next + 1) (k + 1)
+          a′ ≡ a → b′ ≡ b → g′ ≡ glue (l .p) g y → h′ ≡ h → Going l s n first x a′ b′ g′ h′ (next + 1) (k + 1)
       going-longer same ea eb eg eh =
           let f = kept-marks m h same in
-          let p = longer-to (l .n) (l .p) a g (h .loss) (lossMark l v) v ea eg ex (ap (λ c. c .loss) eh) (sym (f .0) ∙ ap (λ c. c .loss) em) in
-          let q = longer-to (l .n) (l .p) b g (h .composite) (compositeMark l v) v eb eg ex (ap (λ c. c .composite) eh) (sym (f .1) ∙ ap (λ c. c .composite) em) in
+          let p = longer-to (l .n) (l .p) a g (h .loss) (lossMark l v) v ea eg ey (ap (λ c. c .loss) eh) (sym (f .0) ∙ ap (λ c. c .loss) em) in
+          let q = longer-to (l .n) (l .p) b g (h .composite) (compositeMark l v) v eb eg ey (ap (λ c. c .composite) eh) (sym (f .1) ∙ ap (λ c. c .composite) em) in
           record {
             numbered = omega (arith, w .numbered);
             few = omega (arith, going-room);
-            held = rw (ea, eb, eg, ex) (held-longer l a b g k (w .held) v going-valid);
+            held = rw (ea, eb, eg, ey) (held-longer l a b g k (w .held) v going-valid);
             goes-on = rw (p, q) stepped;
           }
 
       pub going-next :
           {t u : Run} → a′ ≡ push (l .n) (l .p) a t → t ≡ toned (h .loss) g → b′ ≡ push (l .n) (l .p) b u → u ≡ toned (h .composite) g →
-          g′ ≡ x → h′ ≡ m → Going l s n first start begun a′ b′ g′ h′ (next + 1) (k + 1)
+          g′ ≡ y → h′ ≡ m → Going l s n first x a′ b′ g′ h′ (next + 1) (k + 1)
       going-next ea et eb eu eg eh =
-          let p = next-to (l .n) (l .p) a g (h .loss) (lossMark l v) v ea et (eg ∙ ex) (ap (λ c. c .loss) (eh ∙ em)) in
-          let q = next-to (l .n) (l .p) b g (h .composite) (compositeMark l v) v eb eu (eg ∙ ex) (ap (λ c. c .composite) (eh ∙ em)) in
+          let p = next-to (l .n) (l .p) a g (h .loss) (lossMark l v) v ea et (eg ∙ ey) (ap (λ c. c .loss) (eh ∙ em)) in
+          let q = next-to (l .n) (l .p) b g (h .composite) (compositeMark l v) v eb eu (eg ∙ ey) (ap (λ c. c .composite) (eh ∙ em)) in
           record {
             numbered = omega (arith, w .numbered);
             few = omega (arith, going-room);
-            held = rw (ea, et, eb, eu, eg, ex) (held-next l a b g k (w .held) v going-valid (h .loss) (h .composite));
+            held = rw (ea, et, eb, eu, eg, ey) (held-next l a b g k (w .held) v going-valid (h .loss) (h .composite));
             goes-on = rw (p, q) stepped;
           }

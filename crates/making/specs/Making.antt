@@ -1,5 +1,5 @@
 -- What the operation `summary` answers and leaves in the caller's buffer, for every input, in document 01's order of refusals.
-use Prim.Native.Nat.{ℕ, _+_, _<_}
+use Prim.Native.Nat.{ℕ, _+_, _≤_, _<_}
 use mathlib.Core.Path.{_≡_}
 use mathlib.Core.Bool.{Bool, true, false, cond}
 use mathlib.Core.List.{List, map}
@@ -25,12 +25,15 @@ use Rattle.runs.specs.declared.run.Run.{Run}
 use Rattle.runs.specs.Valid.{RunValid}
 use Rattle.tallies.specs.Seen.{lossSeen, compositeSeen}
 use Rattle.tracks.specs.declared.Track.{Track}
+use Rattle.tracks.specs.declared.Track.the-variants.{Many}
 use Rattle.tracks.specs.Tracks.{pushAll}
+use Rattle.tracks.specs.Valid.{TrackValid}
 use Rattle.summaries.specs.Made.{madeOf}
 use Rattle.summaries.specs.Stored.{summaryBytes}
 use Rattle.summaries.specs.declared.Summary.{Summary}
 use Rattle.making.specs.declared.Gathered.{Gathered}
 use Rattle.making.specs.declared.Made.{Made}
+use Rattle.making.specs.declared.Several.{Several}
 
 -- where the records are sound
 abbrev pub goodIf : Sequence → Summary → Gathered
@@ -98,3 +101,23 @@ pub record Begun (l : LabelSettings) (first : ℕ) (g : Run) : Type 0 where
   pub segment : RunValid (l .p) g
   pub one : g .len ≡ 1
   pub high : g .mark ≡ true
+
+-- a track of several runs, taken apart
+abbrev pub severalOf : Several → Track
+severalOf a = Many (a .first) (a .middle) (a .last)
+
+-- what a loop holds after k intervals: both tracks before the segment, and the segment
+pub record Held (l : LabelSettings) (a b : Track) (g : Run) (k : ℕ) : Type 0 where
+  pub before : ℕ
+  pub lengths : before + g .len ≡ k
+  pub loss : TrackValid (l .n) (l .p) before a
+  pub composite : TrackValid (l .n) (l .p) before b
+  pub segment : RunValid (l .p) g
+  pub high : g .mark ≡ true
+
+-- from which another loop goes on
+pub record Gone (l : LabelSettings) (first : ℕ) (a b : Track) (g : Run) (next k : ℕ) : Type 0 where
+  pub valid : labelMeets l ≡ true
+  pub numbered : next ≡ first + k
+  pub few : next ≤ intervals
+  pub held : Held l a b g k

@@ -13,8 +13,9 @@ use Rattle.runs.specs.declared.run.Edges.the-variants.{Solid, Split}
 use Rattle.runs.specs.declared.run.Run.{Run}
 use Rattle.runs.specs.declared.middles.Middle.{Middle}
 use Rattle.runs.specs.Figures.{both, plus}
-use Rattle.runs.specs.Valid.{LoadValid, FiguresValid, EdgesValid, EdgesFor, RunValid, MiddleFits, LoadsFit, FiguresFit, spanOf, RunsFit, MiddlesFit}
-use Rattle.runs.proofs.Keeping.{plus-valid}
+use Rattle.runs.specs.Runs.{figuresOf}
+use Rattle.runs.specs.Valid.{LoadValid, FiguresValid, EdgesValid, EdgesFor, RunValid, MiddleFits, LoadsFit, FiguresFit, spanOf, RunsFit, MiddlesFit, ShutFits}
+use Rattle.runs.proofs.Keeping.{plus-valid, figures-valid}
 
 pub span-solid : (e : Edges) (k : ℕ) → e ≡ Solid k → spanOf e ≡ k
 unfolding spanOf
@@ -84,5 +85,15 @@ middles-fit p i j a b v w room =
       taken =
           figures-fit p (a .available) (plus (b .inherited) (b .available)) (v .available)
           (plus-valid p (b .inherited) (b .available) (w .inherited) (w .available)) (omega (arith, v .counted, w .counted));
+      unavailable = omega (arith, v .counted, w .counted);
+    }
+
+pub shut-fits : (p i : ℕ) (m : Middle) (t : Run) → MiddleFits p i m → RunValid p t → i + t .len ≤ intervals → ShutFits p m t
+unfolding intervals figuresOf
+shut-fits p i m t v w room =
+    record {
+      span = span-fits p t w (omega arith);
+      inherited = figures-fit p (m .inherited) (figuresOf p t) (v .inherited) (figures-valid p t w) (omega (arith, v .counted, w .counted));
+      available = figures-fit p (m .available) (figuresOf p t) (v .available) (figures-valid p t w) (omega (arith, v .counted, w .counted));
       unavailable = omega (arith, v .counted, w .counted);
     }

@@ -1,4 +1,5 @@
--- Middles are a monoid; to put all in maintenance is a homomorphism of it and goes through `shut`.
+-- Middles are a monoid; to put all in maintenance is a homomorphism of it and goes through `shut`. A run that is shut behind a middle changes
+-- one set of its figures: the one that the label behind both says.
 use mathlib.Core.Path.{_≡_, refl}
 use mathlib.Core.Bool.{Bool, true, false}
 use Prim.Native.Nat.{ℕ, _+_}
@@ -85,6 +86,51 @@ pub times-assoc : (a b c : Middle) → times (times a b) c ≡ times a (times b 
 unfolding times
 times-assoc a b c =
     assoc-by (a .label) (b .label) (a .inherited) (b .inherited) (a .available) (b .available) (a .unavailable) (b .unavailable) c
+
+-- figures behind a middle that inherit, are available, are unavailable: the rest of the middle stays
+
+onto-inherits : (l k : Label) (i a f : Figures) (u : ℕ) → over l k ≡ Inherits → timesBy l (middle l i a u) (placed k f) ≡ middle Inherits (plus i f) a u
+unfolding over timesBy placed
+onto-inherits Inherits Inherits i a f u e = λ j. middle Inherits (plus i f) (plus-none a j) (add-zero u j)
+onto-inherits (Says b) Inherits i a f u e = cc
+onto-inherits l (Says b) i a f u e = cc
+
+onto-available : (l k : Label) (i a f : Figures) (u : ℕ) → over l k ≡ Says false → timesBy l (middle l i a u) (placed k f) ≡ middle (Says false) i (plus a f) u
+unfolding over timesBy placed none idle
+onto-available Inherits Inherits i a f u e = cc
+onto-available (Says true) Inherits i a f u e = cc
+onto-available (Says false) Inherits i a f u e = rw (plus-none f, add-zero u)
+onto-available l (Says true) i a f u e = cc
+onto-available Inherits (Says false) i a f u e = rw (plus-none i, add-zero u)
+onto-available (Says true) (Says false) i a f u e = rw (add-zero u)
+onto-available (Says false) (Says false) i a f u e = rw (none-plus f, add-zero u)
+
+onto-unavailable :
+    (l k : Label) (i a f : Figures) (u : ℕ) → over l k ≡ Says true → timesBy l (middle l i a u) (placed k f) ≡ middle (Says true) i a (u + f .load .count)
+unfolding over timesBy placed none idle
+onto-unavailable Inherits Inherits i a f u e = cc
+onto-unavailable (Says false) Inherits i a f u e = cc
+onto-unavailable (Says true) Inherits i a f u e = rw (plus-none a, add-zero (f .load .count))
+onto-unavailable l (Says false) i a f u e = cc
+onto-unavailable Inherits (Says true) i a f u e = rw (plus-none i, plus-none a)
+onto-unavailable (Says true) (Says true) i a f u e = rw (plus-none a, zero-add (f .load .count))
+onto-unavailable (Says false) (Says true) i a f u e = rw (plus-none none, plus-none a)
+
+module _ (n p : ℕ) (m : Middle) (t : Run) where
+  pub shut-inherits :
+      over (m .label) (verdict n t) ≡ Inherits → times m (shut n p t) ≡ middle Inherits (plus (m .inherited) (figuresOf p t)) (m .available) (m .unavailable)
+  unfolding times shut
+  shut-inherits e = onto-inherits (m .label) (verdict n t) (m .inherited) (m .available) (figuresOf p t) (m .unavailable) e
+
+  pub shut-available :
+      over (m .label) (verdict n t) ≡ Says false → times m (shut n p t) ≡ middle (Says false) (m .inherited) (plus (m .available) (figuresOf p t)) (m .unavailable)
+  unfolding times shut
+  shut-available e = onto-available (m .label) (verdict n t) (m .inherited) (m .available) (figuresOf p t) (m .unavailable) e
+
+  pub shut-unavailable :
+      over (m .label) (verdict n t) ≡ Says true → times m (shut n p t) ≡ middle (Says true) (m .inherited) (m .available) (m .unavailable + figuresOf p t .load .count)
+  unfolding times shut
+  shut-unavailable e = onto-unavailable (m .label) (verdict n t) (m .inherited) (m .available) (figuresOf p t) (m .unavailable) e
 
 -- a run in maintenance has no figures
 pub figures-quiet : (p : ℕ) (r : Run) → figuresOf p (quietRun r) ≡ none

@@ -12,6 +12,7 @@ use Rattle.runs.specs.declared.middles.Label.{Label}
 use Rattle.runs.specs.declared.middles.Label.the-variants.{Inherits, Says}
 use Rattle.runs.specs.declared.middles.Middle.{Middle}
 use Rattle.runs.specs.Figures.{none, plus}
+use Rattle.runs.specs.Runs.{figuresOf}
 
 -- a load: an interval's rules, with the headroom for the least delay
 pub record LoadValid (l : Load) : Type 0 where
@@ -92,3 +93,10 @@ pub record MiddlesFit (a b : Middle) : Type 0 where
   pub handed : FiguresFit (b .inherited) (b .available)
   pub taken : FiguresFit (a .available) (plus (b .inherited) (b .available))
   pub unavailable : a .unavailable + (b .inherited .load .count + b .unavailable) < 4294967296
+
+-- a middle and a run that is shut behind it
+pub record ShutFits (p : ℕ) (m : Middle) (t : Run) : Type 0 where
+  pub span : spanOf (t .edges) < 4294967294
+  pub inherited : FiguresFit (m .inherited) (figuresOf p t)
+  pub available : FiguresFit (m .available) (figuresOf p t)
+  pub unavailable : m .unavailable + figuresOf p t .load .count < 4294967296

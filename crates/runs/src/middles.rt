@@ -6,7 +6,7 @@ use crate::run::Run;
 ghost use mathlib.Core.Path.{_≡_};
 ghost use Prim.Native.Nat.{_<_};
 ghost use Rattle.runs.specs.Middles.{unit, placed, verdict, shut, over, times, quietMiddle};
-ghost use Rattle.runs.specs.Valid.{spanOf, MiddlesFit};
+ghost use Rattle.runs.specs.Valid.{spanOf, MiddlesFit, ShutFits};
 
 // The label behind a middle: that of the run before it, or one of its own (true is unavailable).
 pub enum Label {
@@ -129,6 +129,44 @@ pub fn times(a: Middle, b: Middle) -> Middle
                     inherited: held,
                     available: figures::plus(left, figures::plus(inherited, right)),
                     unavailable: a.unavailable + b.unavailable,
+                }
+            }
+        }
+    }
+}
+
+// The middle with a run behind it that can no longer grow: the run's figures go where its label, or else that of the middle, says.
+pub fn shut_onto(n: u32, p: u32, m: Middle, t: Run) -> Middle
+    requires { ⌜ ShutFits p m t ⌝ }
+    ensures { λ r. ⌜ r ≡ times m (shut n p t) ⌝ }
+{
+    let f = run::figures_of(p, t);
+    let before = m.label;
+    let inherited = m.inherited;
+    let available = m.available;
+    let label = over(before, verdict(n, t));
+    match label {
+        Label::Inherits => Middle {
+            label,
+            inherited: figures::plus(inherited, f),
+            available,
+            unavailable: m.unavailable,
+        },
+        Label::Says(unavailable) => {
+            if unavailable {
+                let load = f.load;
+                Middle {
+                    label,
+                    inherited,
+                    available,
+                    unavailable: m.unavailable + load.count,
+                }
+            } else {
+                Middle {
+                    label,
+                    inherited,
+                    available: figures::plus(available, f),
+                    unavailable: m.unavailable,
                 }
             }
         }

@@ -8,9 +8,9 @@ use Rattle.runs.specs.declared.middles.Label.the-variants.{Says}
 use Rattle.runs.specs.declared.middles.Middle.{Middle}
 use Rattle.runs.specs.Figures.{none, idle}
 use Rattle.runs.specs.Middles.{shut, times}
-use Rattle.runs.specs.Valid.{RunValid, MiddleFits, spanOf, RunsFit, MiddlesFit}
+use Rattle.runs.specs.Valid.{RunValid, MiddleFits, spanOf, RunsFit, MiddlesFit, ShutFits}
 use Rattle.runs.proofs.Keeping.{none-valid, placed-fits, shut-valid, times-fits}
-use Rattle.runs.proofs.Fitting.{runs-fit, middles-fit, span-fits}
+use Rattle.runs.proofs.Fitting.{runs-fit, middles-fit, span-fits, shut-fits}
 use Rattle.tracks.specs.declared.Track.{Track}
 use Rattle.tracks.specs.declared.Track.the-variants.{One, Many}
 use Rattle.tracks.specs.Tracks.{push, start}
@@ -45,15 +45,10 @@ module _ (n p : ℕ) where
       let v : ManyValid n p (h .i) l m t = many-of (h .i) a l m t (h .left) e in
       runs-fit p t r (v .last) (h .right) (omega (arith, v .lengths, h .room))
 
-  pub push-shuts : (a : Track) (r l : Run) (m : Middle) (t : Run) → PushFits n p a r → a ≡ Many l m t → spanOf (t .edges) < 4294967294
+  pub push-shuts : (a : Track) (r l : Run) (m : Middle) (t : Run) → PushFits n p a r → a ≡ Many l m t → ShutFits p m t
   push-shuts a r l m t h e =
       let v : ManyValid n p (h .i) l m t = many-of (h .i) a l m t (h .left) e in
-      span-fits p t (v .last) (omega (arith, v .lengths, h .room))
-
-  pub push-times : (a : Track) (r l : Run) (m : Middle) (t : Run) → PushFits n p a r → a ≡ Many l m t → MiddlesFit m (shut n p t)
-  push-times a r l m t h e =
-      let v : ManyValid n p (h .i) l m t = many-of (h .i) a l m t (h .left) e in
-      middles-fit p (v .size) (t .len) m (shut n p t) (v .middle .figures) (shut-valid n p t (v .last) .figures) (omega (arith, v .lengths, h .room))
+      shut-fits p (v .size) m t (v .middle .figures) (v .last) (omega (arith, v .lengths, h .room))
 
   -- what `graft` asks
   pub graft-shuts : (a : Track) (k : Middle) (l : Run) (m : Middle) (t : Run) → GraftFits n p a k → a ≡ Many l m t → spanOf (t .edges) < 4294967294

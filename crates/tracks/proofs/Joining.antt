@@ -44,6 +44,15 @@ module _ (n p : ℕ) where
       by true = tt
       by false = tt
 
+  -- a run behind several: the first run stays
+  pub push-many : (l : Run) (m : Middle) (t r : Run) → push n p (Many l m t) r ≡ Many l (cond (same t r) m (times m (shut n p t))) (cond (same t r) (glue p t r) r)
+  unfolding push
+  push-many l m t r = by (same t r)
+    where
+      by : (b : Bool) → cond b (Many l m (glue p t r)) (Many l (times m (shut n p t)) r) ≡ Many l (cond b m (times m (shut n p t))) (cond b (glue p t r) r)
+      by true = refl
+      by false = refl
+
   -- a run and one of its mark behind it may be glued first
   pub push-glue : (a : Track) (s r : Run) → same s r ≡ true → push n p (push n p a s) r ≡ push n p a (glue p s r)
   unfolding push

@@ -8,7 +8,11 @@ use runs::run;
 use runs::run::Run;
 use tallies::Tally;
 ghost use mathlib.Core.Path.{_≡_};
+ghost use mathlib.Core.Bool.{cond};
 ghost use Prim.Native.Nat.{_<_};
+ghost use Rattle.runs.specs.Runs.{glue, same};
+ghost use Rattle.runs.specs.Middles.{times, shut};
+ghost use Rattle.runs.specs.Valid.{RunsFit, ShutFits};
 ghost use Rattle.tracks.specs.Tracks.{push, graft, join, quiet, start, decided, finish, sorted, tallied, whole, countIn};
 ghost use Rattle.tracks.specs.Valid.{PushFits, GraftFits, JoinFits, FinishFits, TrackFits};
 
@@ -27,6 +31,30 @@ pub struct Outcome {
     pub undecided: Figures,
 }
 
+// The middle of a track of several runs, the last of which is t, with the run r behind it: where the mark changes t is shut.
+pub fn middle_with(n: u32, p: u32, m: Middle, t: Run, r: Run) -> Middle
+    requires { ⌜ ShutFits p m t ⌝ }
+    ensures { λ k. ⌜ k ≡ cond (same t r) m (times m (shut n p t)) ⌝ }
+{
+    if run::same(t, r) {
+        m
+    } else {
+        middles::shut_onto(n, p, m, t)
+    }
+}
+
+// The last run of such a track.
+pub fn last_with(p: u32, t: Run, r: Run) -> Run
+    requires { ⌜ RunsFit t r ⌝ }
+    ensures { λ k. ⌜ k ≡ cond (same t r) (glue p t r) r ⌝ }
+{
+    if run::same(t, r) {
+        run::glue(p, t, r)
+    } else {
+        r
+    }
+}
+
 // A run behind a track. While the mark stays, only the last run changes.
 pub fn push(n: u32, p: u32, a: Track, r: Run) -> Track
     requires { ⌜ PushFits n p a r ⌝ }
@@ -41,13 +69,7 @@ pub fn push(n: u32, p: u32, a: Track, r: Run) -> Track
                 Track::Many(t, middles::unit(), r)
             }
         }
-        Track::Many(l, m, t) => {
-            if run::same(t, r) {
-                Track::Many(l, m, run::glue(p, t, r))
-            } else {
-                Track::Many(l, middles::times(m, middles::shut(n, p, t)), r)
-            }
-        }
+        Track::Many(l, m, t) => { Track::Many(l, middle_with(n, p, m, t, r), last_with(p, t, r)) }
     }
 }
 
