@@ -30,8 +30,9 @@ use Rattle.summaries.specs.declared.Summary.{Summary}
 use Rattle.summaries.specs.declared.SummaryRead.{SummaryRead}
 use Rattle.summaries.specs.Made.{madeOf}
 use Rattle.summaries.proofs.Made.{made-reads-back}
-use Rattle.making.specs.Making.{goodIf, gathered, gatheredCount, gatheredSettings, made}
-use Rattle.making.specs.declared.Gathered.{Gathered}
+use Rattle.gathering.specs.Gathering.{goodIf, gathered}
+use Rattle.gathering.specs.declared.Gathered.{Gathered}
+use Rattle.making.specs.Making.{gatheredCount, gatheredSettings, made}
 use Rattle.joining.proofs.Cut.{join-made}
 use Rattle.joining.specs.Joining.{good, judged, joinedOf}
 use Rattle.joining.proofs.Joins.{never-refused}

@@ -16,8 +16,8 @@ use Rattle.labels.proofs.Placing.{read-label}
 use Rattle.tallies.specs.Report.{Labelled, report}
 use Rattle.summaries.specs.Stored.{summaryBytes}
 use Rattle.summaries.specs.declared.Summary.{Summary}
+use Rattle.gathering.specs.declared.Gathered.{Gathered}
 use Rattle.making.specs.Making.{made}
-use Rattle.making.specs.declared.Gathered.{Gathered}
 use Rattle.periods.specs.Stretches.{madeBytes, bytes-held}
 use Rattle.reports.specs.Circuits.{Circuit, threeBytes}
 use Rattle.reports.specs.Three.{reportOf}

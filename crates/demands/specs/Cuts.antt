@@ -4,8 +4,8 @@ use mathlib.Core.Path.{_≡_}
 use mathlib.Core.List.{List, [], _++_}
 use lib.ListN.{length}
 use Rattle.summaries.specs.Stored.{summaryBytes}
+use Rattle.gathering.specs.declared.Gathered.{Gathered}
 use Rattle.making.specs.Making.{made}
-use Rattle.making.specs.declared.Gathered.{Gathered}
 use Rattle.joining.specs.Joining.{Judged, good, bad, judged}
 
 -- the bytes of some records, or of none; or two such that are to be joined, the second behind the first

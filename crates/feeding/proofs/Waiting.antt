@@ -16,8 +16,8 @@ use Rattle.labels.specs.Stretch.{intervalsOf}
 use Rattle.tracks.specs.Tracks.{join, pushAll, summary}
 use Rattle.summaries.specs.declared.Summary.{Summary}
 use Rattle.summaries.specs.Made.{madeOf}
-use Rattle.making.specs.Making.{goodIf, gathered}
-use Rattle.making.specs.declared.Gathered.{Gathered}
+use Rattle.gathering.specs.Gathering.{goodIf, gathered}
+use Rattle.gathering.specs.declared.Gathered.{Gathered}
 use Rattle.joining.specs.Joining.{joinedOf, Adjoining}
 use Rattle.feeding.specs.Feeding.{Standing, standing, heldIf, behind, grown, grownBy, restOf, filled, fed, Known, Growing, Ready}
 use Rattle.feeding.specs.declared.Held.{Held}

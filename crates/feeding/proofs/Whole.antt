@@ -25,7 +25,8 @@ use Rattle.summaries.specs.Stored.{summaryBytes}
 use Rattle.summaries.specs.declared.Summary.{Summary}
 use Rattle.summaries.specs.Made.{madeOf}
 use Rattle.summaries.proofs.Made.{made-reads-back}
-use Rattle.making.specs.Making.{goodIf, gathered, gatheredCount, gatheredSettings, made}
+use Rattle.gathering.specs.Gathering.{goodIf, gathered}
+use Rattle.making.specs.Making.{gatheredCount, gatheredSettings, made}
 use Rattle.joining.proofs.Cut.{join-made}
 use Rattle.joining.specs.Joining.{joinedOf, Adjoining}
 use Rattle.joining.proofs.Joins.{join-assoc, join-reads-back}

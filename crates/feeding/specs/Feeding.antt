@@ -16,7 +16,7 @@ use Rattle.summaries.specs.Stored.{summaryOf}
 use Rattle.summaries.specs.declared.Summary.{Summary}
 use Rattle.summaries.specs.declared.SummaryRead.{SummaryRead}
 use Rattle.summaries.specs.Made.{madeOf}
-use Rattle.making.specs.declared.Gathered.{Gathered}
+use Rattle.gathering.specs.declared.Gathered.{Gathered}
 use Rattle.joining.specs.Joining.{joinedOf}
 use Rattle.feeding.specs.declared.Held.{Held}
 use Rattle.feeding.specs.declared.State.{State}

@@ -1,7 +1,7 @@
 // Interval records fed piece by piece, in pieces of any sizes: at the end stands what the operation `summary` makes of all the bytes. Each
 // piece's whole records are made a summary of their own, which is joined to what is held; the bytes of a record that has only begun wait in a
 // lent tail of 48 bytes for the next piece.
-use making::Gathered;
+use gathering::Gathered;
 use numbers::refusal::Fault;
 use numbers::refusal::Refusal;
 use settings::SettingsRead;
@@ -46,7 +46,7 @@ fn grow(v: Summary, s: &[u8]) -> Held
     ensures { λ r. ⌜ r ≡ grown v (now (s .entry)) ⌝ }
 {
     let l = v.label;
-    let made = making::gather(l, s, v.after);
+    let made = gathering::gather(l, s, v.after);
     match made {
         Gathered::Good(x) => {
             let all = joining::both(v, x);

@@ -18,7 +18,7 @@ use Rattle.summaries.specs.declared.Summary.{Summary}
 use Rattle.summaries.proofs.Validity.{SummaryValid, summary-valid}
 use Rattle.summaries.specs.Made.{madeOf}
 use Rattle.summaries.proofs.Made.{made-reads-back}
-use Rattle.making.specs.declared.Gathered.{Gathered}
+use Rattle.gathering.specs.declared.Gathered.{Gathered}
 use Rattle.periods.specs.Stretches as stretches
 use Rattle.periods.specs.Stretches.{stretchOf, heldIf, stretch-held, first-held, after-held, label-held}
 use Rattle.periods.specs.declared.StretchRead.{StretchRead}

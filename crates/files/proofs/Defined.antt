@@ -25,8 +25,9 @@ use Rattle.labels.specs.Stretch.{intervalsOf}
 use Rattle.tallies.specs.Report.{Labelled, report}
 use Rattle.tallies.proofs.Valid.{AllValid}
 use Rattle.summaries.specs.Made.{madeOf}
-use Rattle.making.specs.Making.{gathered, gatheredSettings, made}
-use Rattle.making.specs.declared.Gathered.{Gathered}
+use Rattle.gathering.specs.Gathering.{gathered}
+use Rattle.gathering.specs.declared.Gathered.{Gathered}
+use Rattle.making.specs.Making.{gatheredSettings, made}
 use Rattle.periods.specs.Stretches.{made-held}
 use Rattle.periods.proofs.Promises.{period-defined}
 use Rattle.feeding.specs.Feeding.{finishedBy, begun, Ready, Steps, joined}

@@ -9,8 +9,8 @@ use Rattle.settings.specs.declared.Settings.{Settings}
 use Rattle.settings.specs.declared.SettingsRead.{SettingsRead}
 use Rattle.summaries.specs.declared.Summary.{Summary}
 use Rattle.summaries.specs.Made.{madeOf}
+use Rattle.gathering.specs.declared.Gathered.{Gathered}
 use Rattle.making.specs.Making.{made}
-use Rattle.making.specs.declared.Gathered.{Gathered}
 use Rattle.tallies.specs.declared.Period.{Period}
 use Rattle.periods.specs.Stretches.{periodOf}
 use Rattle.periods.specs.declared.Stretch.{Stretch}

@@ -1,6 +1,6 @@
 // A whole file of intervals as one period: its report and verdicts, or the refusal, of what was fed of it.
 use feeding::State;
-use making::Gathered;
+use gathering::Gathered;
 use numbers::refusal::Fault;
 use numbers::refusal::Refusal;
 use periods::Stretch;

@@ -19,8 +19,9 @@ use Rattle.settings.specs.declared.Settings.{Settings}
 use Rattle.settings.specs.declared.SettingsRead.{SettingsRead}
 use Rattle.summaries.specs.Stored.{summaryBytes}
 use Rattle.summaries.specs.declared.Summary.{Summary}
-use Rattle.making.specs.Making.{gathered, made, answerOf, leftOf, Outcome}
-use Rattle.making.specs.declared.Gathered.{Gathered}
+use Rattle.gathering.specs.Gathering.{gathered}
+use Rattle.gathering.specs.declared.Gathered.{Gathered}
+use Rattle.making.specs.Making.{made, answerOf, leftOf, Outcome}
 use Rattle.making.specs.declared.Made.{Made}
 
 module _ (settings : List ℕ) (first : ℕ) (s out : List ℕ) (at : ℕ) where

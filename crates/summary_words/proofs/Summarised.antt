@@ -25,8 +25,9 @@ use Rattle.labels.proofs.Places.{checked-place}
 use Rattle.summaries.specs.Stored.{summaryOf}
 use Rattle.summaries.specs.declared.Summary.{Summary}
 use Rattle.summaries.specs.declared.SummaryRead.{SummaryRead}
+use Rattle.gathering.specs.declared.Gathered.{Gathered}
+use Rattle.gathering.specs.Gathering.{goodIf, gathered}
 use Rattle.making.specs.Making
-use Rattle.making.specs.declared.Gathered.{Gathered}
 use Rattle.making.specs.declared.Made.{Made}
 use Rattle.joining.specs.Joining
 use Rattle.joining.specs.declared.Joined.{Joined}
@@ -50,13 +51,13 @@ gatheredPlace : Gathered → ℕ
 gatheredPlace (Gathered.Good v) = 0
 gatheredPlace (Gathered.Bad r) = r .place
 
-good-place : (q : Sequence) (v : Summary) → faultPlace q ≤ intervals → gatheredPlace (Making.goodIf q v) ≤ intervals
+good-place : (q : Sequence) (v : Summary) → faultPlace q ≤ intervals → gatheredPlace (goodIf q v) ≤ intervals
 unfolding gatheredPlace faultPlace
 good-place Sequence.Sound v h = h
 good-place (Sequence.Refused r) v h = h
 
-gathered-place : (l : LabelSettings) (first : ℕ) (s : List ℕ) → first ≤ intervals → gatheredPlace (Making.gathered l first s) ≤ intervals
-unfolding Making.gathered intervalsIn
+gathered-place : (l : LabelSettings) (first : ℕ) (s : List ℕ) → first ≤ intervals → gatheredPlace (gathered l first s) ≤ intervals
+unfolding gathered intervalsIn
 gathered-place l first s h = good-place (checked first 0 (intervalsIn s)) _ (omega (arith, fault-place (length s / 48) s 0 first 0 h))
 
 room-place : (l : LabelSettings) (room : Bool) (first : ℕ) (s : List ℕ) → gatheredPlace (Making.gatheredRoom l room first s) ≤ intervals

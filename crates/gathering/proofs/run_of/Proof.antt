@@ -1,10 +1,10 @@
--- `making::run_of` meets its contract: what the track sees, as a run.
+-- `gathering::run_of` meets its contract: what the track sees, as a run.
 -- Assumes nothing.
 use mathlib.Core.Path.{ap, _∙_}
 use borrow.Author.Needs.{needs}
 use Rattle.runs.specs.Runs.{single}
-use Rattle.making.proofs.run_of.Statement.{statement}
-use Rattle.making.proofs.run_of.Tie as tie
+use Rattle.gathering.proofs.run_of.Statement.{statement}
+use Rattle.gathering.proofs.run_of.Tie as tie
 
 marked-requires : tie.Need-marked-requires
 marked-requires c κs = search needs

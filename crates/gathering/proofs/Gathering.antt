@@ -23,8 +23,8 @@ use Rattle.tracks.specs.declared.Track.{Track}
 use Rattle.tracks.specs.declared.Track.the-variants.{Nothing, One}
 use Rattle.tracks.specs.Tracks.{push, pushAll, summary}
 use Rattle.summaries.specs.Made.{madeOf}
-use Rattle.making.specs.Making.{goodIf, gathered, madeWith, onwards}
-use Rattle.making.specs.declared.Gathered.{Gathered}
+use Rattle.gathering.specs.Gathering.{goodIf, gathered, madeWith, onwards}
+use Rattle.gathering.specs.declared.Gathered.{Gathered}
 
 -- an interval more behind the tracks
 with-next :

@@ -1,8 +1,8 @@
--- `making::toned` meets its contract, by the mark.
+-- `gathering::toned` meets its contract, by the mark.
 -- Assumes nothing.
-use Rattle.making.specs.Making.{toned}
-use Rattle.making.proofs.toned.Statement.{statement}
-use Rattle.making.proofs.toned.Tie as tie
+use Rattle.gathering.specs.Gathering.{toned}
+use Rattle.gathering.proofs.toned.Statement.{statement}
+use Rattle.gathering.proofs.toned.Tie as tie
 
 returns : tie.Need-returns
 unfolding toned

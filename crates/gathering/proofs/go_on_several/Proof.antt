@@ -1,4 +1,4 @@
--- `making::go_on_several` meets its contract: at each turn the laws of `Gathering` and `Segments` say what the record at k does. The
+-- `gathering::go_on_several` meets its contract: at each turn the laws of `Gathering` and `Segments` say what the record at k does. The
 -- first runs stay, and a run behind each track changes its middle and its last run as `push` does.
 -- Assumes nothing.
 use mathlib.Core.Path.{refl, sym, _∙_}
@@ -10,11 +10,11 @@ use Rattle.numbers.specs.Limits.{intervals}
 use Rattle.tracks.specs.declared.Track.the-variants.{Many}
 use Rattle.tracks.specs.Tracks.{push}
 use Rattle.tracks.proofs.Fitting.{push-shuts, push-glues}
-use Rattle.making.specs.Making.{toned, severalOf}
-use Rattle.making.proofs.Gathering.{on-done, on-invalid, on-disordered}
-use Rattle.making.proofs.Segments.{Going, ofRest, going-gone, going-valid, going-room, going-longer, going-next, longer-fits, loss-fits, composite-fits, several-kept, several-next}
-use Rattle.making.proofs.go_on_several.Statement.{statement}
-use Rattle.making.proofs.go_on_several.Tie as tie
+use Rattle.gathering.specs.Gathering.{toned, severalOf}
+use Rattle.gathering.proofs.Gathering.{on-done, on-invalid, on-disordered}
+use Rattle.gathering.proofs.Segments.{Going, ofRest, going-gone, going-valid, going-room, going-longer, going-next, longer-fits, loss-fits, composite-fits, several-kept, several-next}
+use Rattle.gathering.proofs.go_on_several.Statement.{statement}
+use Rattle.gathering.proofs.go_on_several.Tie as tie
 
 abbrev Inv-loop : tie.InvT-loop
 Inv-loop l s n first from place w p loss-first composite-first loss₀ loss-last₀ composite₀ composite-last₀ segment₀ high₀ due₀ k₀ loss loss-last composite composite-last segment high due k =

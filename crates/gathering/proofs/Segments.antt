@@ -34,9 +34,9 @@ use Rattle.tracks.specs.Valid.{TrackValid, PushFits}
 use Rattle.tracks.proofs.Deciding.{beq-yes}
 use Rattle.tracks.proofs.Joining.{push-glue, push-many}
 use Rattle.tracks.proofs.Keeping.{push-valid}
-use Rattle.making.specs.Making.{onwards, toned, Held, Begun, Gone}
-use Rattle.making.specs.declared.Gathered.{Gathered}
-use Rattle.making.proofs.Gathering.{on-next}
+use Rattle.gathering.specs.Gathering.{onwards, toned, Held, Begun, Gone}
+use Rattle.gathering.specs.declared.Gathered.{Gathered}
+use Rattle.gathering.proofs.Gathering.{on-next}
 
 -- an interval as a segment
 

@@ -1,4 +1,4 @@
--- `making::gather` meets its contract: the first record makes the first runs, and the rest goes on from them.
+-- `gathering::gather` meets its contract: the first record makes the first runs, and the rest goes on from them.
 -- Assumes nothing.
 use mathlib.Core.Path.{_≡_, ap, sym, _∙_}
 use Prim.Native.Nat.{_/_, _<_}
@@ -9,12 +9,12 @@ use Rattle.labels.specs.Marked.{lossMark, compositeMark}
 use Rattle.runs.specs.Runs.{single}
 use Rattle.tracks.specs.declared.Track.the-variants.{Nothing}
 use Rattle.tallies.specs.Seen.{lossSeen, compositeSeen}
-use Rattle.making.specs.Making.{toned}
-use Rattle.making.proofs.Gathering.{from-first, from-second, on-done, on-invalid, on-disordered}
-use Rattle.making.proofs.Segments.{seen-valid, seen-one, seen-high, toned-to}
+use Rattle.gathering.specs.Gathering.{toned}
+use Rattle.gathering.proofs.Gathering.{from-first, from-second, on-done, on-invalid, on-disordered}
+use Rattle.gathering.proofs.Segments.{seen-valid, seen-one, seen-high, toned-to}
 use borrow.Author.Needs.{needs}
-use Rattle.making.proofs.gather.Statement.{statement}
-use Rattle.making.proofs.gather.Tie as tie
+use Rattle.gathering.proofs.gather.Statement.{statement}
+use Rattle.gathering.proofs.gather.Tie as tie
 
 returns : tie.Need-returns
 returns c = let a = c .before .before .args in

@@ -1,4 +1,4 @@
--- `making::go_on` meets its contract: at each turn the laws of `Gathering` and `Segments` say what the record at k does. Once both
+-- `gathering::go_on` meets its contract: at each turn the laws of `Gathering` and `Segments` say what the record at k does. Once both
 -- tracks are of several runs, `go_on_several` makes the rest.
 -- Assumes nothing.
 use mathlib.Core.Path.{sym, _∙_}
@@ -8,11 +8,11 @@ use native.Mathlib.Omega.{arith}
 use borrow.Author.Needs.{needs}
 use Rattle.numbers.specs.Limits.{intervals}
 use Rattle.tracks.specs.Tracks.{push}
-use Rattle.making.specs.Making.{toned}
-use Rattle.making.proofs.Gathering.{on-done, on-invalid, on-disordered}
-use Rattle.making.proofs.Segments.{Going, ofFirst, going-begun, gone-going, made-on, going-valid, going-room, going-longer, going-next, longer-fits, loss-fits, composite-fits}
-use Rattle.making.proofs.go_on.Statement.{statement}
-use Rattle.making.proofs.go_on.Tie as tie
+use Rattle.gathering.specs.Gathering.{toned}
+use Rattle.gathering.proofs.Gathering.{on-done, on-invalid, on-disordered}
+use Rattle.gathering.proofs.Segments.{Going, ofFirst, going-begun, gone-going, made-on, going-valid, going-room, going-longer, going-next, longer-fits, loss-fits, composite-fits}
+use Rattle.gathering.proofs.go_on.Statement.{statement}
+use Rattle.gathering.proofs.go_on.Tie as tie
 
 abbrev Inv-loop : tie.InvT-loop
 Inv-loop l s n first w p loss₀ composite₀ segment₀ high₀ next₀ k₀ loss composite segment high next k =

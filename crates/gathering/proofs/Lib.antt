@@ -1,0 +1,3 @@
+-- The laws of this crate that others cite.
+pub mod Gathering
+pub mod Segments
