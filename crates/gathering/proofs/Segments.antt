@@ -26,7 +26,7 @@ use Rattle.runs.proofs.Fitting.{runs-fit}
 use Rattle.runs.proofs.Keeping.{single-valid, glue-valid}
 use Rattle.runs.proofs.Tying.{split-tie}
 use Rattle.tallies.specs.Seen.{markedAs, lossSeen, compositeSeen}
-use Rattle.rules.proofs.Marking.{marked-sound}
+use Rattle.track_rules.proofs.Marking.{marked-sound}
 use Rattle.tracks.specs.declared.Track.{Track}
 use Rattle.tracks.specs.declared.Track.the-variants.{Nothing, One, Many}
 use Rattle.tracks.specs.Tracks.{push}

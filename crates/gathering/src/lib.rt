@@ -42,7 +42,7 @@ pub struct Several {
 fn run_of(mark: bool, v: Interval) -> Run
     ensures { λ r. ⌜ r ≡ single (markedAs mark v) ⌝ }
 {
-    run::single(rules::marked(mark, v))
+    run::single(track_rules::marked(mark, v))
 }
 
 // A segment, kept as a run of high marks, as the run of a track that has this mark in it.

@@ -20,7 +20,7 @@ use Rattle.tallies.specs.Report.{counted, resting, Labelled, report}
 use Rattle.tallies.specs.Seen.{markedAs, lossSeen, compositeSeen}
 use Rattle.tallies.specs.Tally.{tally, totalled, Labels, marks, serving}
 use Rattle.tallies.proofs.Valid.{AllValid}
-use Rattle.rules.proofs.Marking.{all-sound}
+use Rattle.track_rules.proofs.Marking.{all-sound}
 use Rattle.tracks.specs.declared.Track.{Track}
 use Rattle.tracks.specs.Tracks.{join, quiet, summary, countIn}
 use Rattle.tracks.specs.Valid.{TrackValid}

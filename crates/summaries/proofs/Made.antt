@@ -13,7 +13,7 @@ use Rattle.intervals.specs.declared.Interval.{Interval}
 use Rattle.labels.specs.Marked.{lossMark, compositeMark}
 use Rattle.tallies.specs.Seen.{markedAs, lossSeen, compositeSeen}
 use Rattle.tallies.proofs.Valid.{AllValid}
-use Rattle.rules.proofs.Marking.{all-sound}
+use Rattle.track_rules.proofs.Marking.{all-sound}
 use Rattle.tallies.specs.Tally.{serving}
 use Rattle.tracks.proofs.Keeping.{made-valid}
 use Rattle.tracks.proofs.Serving.{count-summary}

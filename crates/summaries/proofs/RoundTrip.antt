@@ -20,7 +20,7 @@ use Rattle.numbers.proofs.Zeros.{zero-bytes}
 use Rattle.settings.specs.Settings.{labelIn, shapeBytes, thresholdBytes, labelBytes}
 use Rattle.settings.specs.declared.LabelSettings.{LabelSettings}
 use Rattle.settings.proofs.RoundTrip.{length-label, label-read-write, label-write-read}
-use Rattle.rules.proofs.Meeting.{track-meets}
+use Rattle.track_rules.proofs.Meeting.{track-meets}
 use Rattle.tracks.specs.Tracks.{countIn}
 use Rattle.layout.specs.Bytes.{trackBytes}
 use Rattle.layout.specs.Reading.{trackIn, wordsMeet}

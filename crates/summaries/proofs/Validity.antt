@@ -10,7 +10,7 @@ use Rattle.numbers.specs.Limits.{intervals}
 use Rattle.numbers.specs.Rules.{allMet}
 use Rattle.numbers.proofs.Rules.{rule-met}
 use Rattle.settings.specs.Settings.{labelMeets}
-use Rattle.rules.proofs.Meeting.{track-met}
+use Rattle.track_rules.proofs.Meeting.{track-met}
 use Rattle.tracks.specs.Tracks.{countIn}
 use Rattle.tracks.specs.Valid.{TrackValid}
 use Rattle.summaries.specs.Stored.{summaryIn, headerRules, headerMeets, trackRules, tracksMeet, summaryRules, summaryOf, validIf}

@@ -10,7 +10,7 @@ use Rattle.numbers.specs.Rules.{allMet}
 use Rattle.settings.specs.Settings.{labelIn, labelMeets, labelBytes}
 use Rattle.layout.specs.Bytes.{trackBytes}
 use Rattle.layout.specs.Reading.{trackIn, wordsMeet}
-use Rattle.rules.specs.Meets.{trackMeets}
+use Rattle.track_rules.specs.Meets.{trackMeets}
 use Rattle.tracks.specs.Tracks.{countIn}
 use Rattle.summaries.specs.declared.Summary.{Summary}
 use Rattle.summaries.specs.declared.SummaryRead.{SummaryRead}

@@ -61,8 +61,8 @@ fn tracks_meet(v: Summary) -> bool
     let loss = v.loss;
     let composite = v.composite;
     let len = figures::monus(v.after, v.first);
-    if rules::track_meets(l.n as u32, l.p as u32, len, loss) {
-        if rules::track_meets(l.n as u32, l.p as u32, len, composite) {
+    if track_rules::track_meets(l.n as u32, l.p as u32, len, loss) {
+        if track_rules::track_meets(l.n as u32, l.p as u32, len, composite) {
             return tracks::count_in(loss) == tracks::count_in(composite);
         }
     }

@@ -5,8 +5,8 @@ use mathlib.Core.Bool.{true}
 use Prim.Native.Nat.{ℕ, _≤_}
 use native.Mathlib.Omega.{arith}
 use Rattle.summaries.specs.Stored.{trackRules, tracksMeet}
-use Rattle.rules.specs.Meets.{trackMeets}
-use Rattle.rules.proofs.Meeting.{track-met}
+use Rattle.track_rules.specs.Meets.{trackMeets}
+use Rattle.track_rules.proofs.Meeting.{track-met}
 use Rattle.tracks.specs.Tracks.{countIn}
 use Rattle.tracks.specs.declared.Track.{Track}
 use Rattle.tracks.proofs.Serving.{count-valid}
