@@ -1,14 +1,18 @@
 -- The running evaluator over a whole sequence: started and fed intervals 0, 1, 2 .. it holds on each track what the marks fed leave, and
--- each step answers what 01's definition settles by it. And an evaluator is valid exactly when some marks leave what it holds.
-use mathlib.Core.Path.{_≡_, refl, ap}
-use mathlib.Core.Bool.{Bool, true, false}
+-- each step answers what 01's definition settles by it (`starts`, `steps`). An evaluator is valid exactly when some marks leave what it
+-- holds (`valid-possible`, `possible-valid`). So a step answers by the definition on every evaluator that it accepts, whoever filled its
+-- words: for some marks of the number fed, and for all marks that leave what it holds (`steps-accepted`).
+use mathlib.Core.Path.{_≡_, refl, ap, subst, _∙_}
+use mathlib.Core.Bool.{Bool, true, false, cond}
 use mathlib.Core.List.{List, [], _∷_, _++_, map}
-use Prim.Native.Nat.{ℕ, _≤_}
+use Prim.Native.Nat.{ℕ, _+_, _≤_}
 use native.Mathlib.Omega.{arith}
 use lib.Dec.{eqb}
 use lib.ListN.{length, length-map, length-append}
 use borrow.Author.Tests.{eq-eqb, eqb-true, le-leb}
 use Rattle.numbers.specs.Limits.{intervals}
+use Rattle.numbers.specs.Refusals.{refusal}
+use Rattle.numbers.specs.declared.refusal.Fault.{Fault}
 use Rattle.numbers.proofs.Rules.{rule-met}
 use Rattle.settings.specs.Settings.{labelMeets, settingsOf}
 use Rattle.settings.specs.declared.LabelSettings.{LabelSettings}
@@ -19,12 +23,12 @@ use Rattle.intervals.specs.Interval.{intervalOf, intervalRules}
 use Rattle.intervals.specs.declared.Interval.{Interval}
 use Rattle.intervals.specs.declared.IntervalRead.{IntervalRead}
 use Rattle.intervals.proofs.IntervalRecord.{interval-read, interval-valid}
-use Rattle.rule.specs.Evaluator.{fresh, run, Possible, reachable}
+use Rattle.rule.specs.Evaluator.{fresh, turn, run, Possible, reachable}
 use Rattle.rule.specs.declared.Track.{Track}
 use Rattle.rule.proofs.Labelling.{Settles, steps-settle, run-step}
 use Rattle.rule.proofs.Reaching.{possible-reachable, reachable-possible}
 use Rattle.labels.specs.Marked.{lossMark, compositeMark}
-use Rattle.evaluator.specs.Evaluators.{labelOf, lossOf, compositeOf, trackOf, heldOf, wordOf, held, evaluatorRules, evaluatorMeets, which, settledBy, answerOf, fedWith, startOf, stepOf}
+use Rattle.evaluator.specs.Evaluators.{labelOf, lossOf, compositeOf, trackOf, heldOf, wordOf, held, evaluatorRules, evaluatorMeets, which, settledBy, answerOf, fedWith, startOf, stepWith, stepOf}
 use Rattle.evaluator.specs.declared.Answer.{Answer}
 use Rattle.evaluator.specs.declared.Evaluator.{Evaluator}
 use Rattle.evaluator.specs.declared.Settled.{Settled}
@@ -147,3 +151,78 @@ unfolding evaluatorMeets evaluatorRules
 possible-valid e h f a b p q =
     let n : 1 ≤ e .n = label-valid (labelOf e) h .n-facts .0 in
     rw (h, le-leb _ _ f, le-leb _ _ a, le-leb _ _ b, possible-reachable (e .n) (e .fed) (lossOf e) n p, possible-reachable (e .n) (e .fed) (compositeOf e) n q)
+
+-- what a step says of a track that it found holding t: some marks of the number fed leave t, and whichever did, the answer is the
+-- definition's for them and the mark behind them, and what is held next is what they and it leave
+pub record Follows (n fed : ℕ) (t : Track) (m : Bool) (a : Settled) (next : Track) : Type 0 where
+  pub possible : Possible n fed t
+  pub answered : (ms : List Bool) → run n fresh ms ≡ t → Answers n ms m a
+  pub left : (ms : List Bool) → run n fresh ms ≡ t → run n fresh (ms ++ (m ∷ [])) ≡ next
+
+follows : (n fed : ℕ) (t : Track) (m : Bool) → 1 ≤ n → Possible n fed t → Follows n fed t m (settledBy n t m) (turn n t m)
+follows n fed t m some h =
+    record {
+      possible = h;
+      answered = λ ms e. subst (λ x. Answers n ms m (settledBy n x m)) e (answers n ms m some);
+      left = λ ms e. run-step n ms m ∙ ap (λ x. turn n x m) e;
+    }
+
+-- what a step that is not refused found and leaves
+pub record Accepted (e : Evaluator) (r : List ℕ) (next : Evaluator) (answer : Answer) : Type 0 where
+  pub interval : Interval
+  pub is-read : intervalOf r ≡ IntervalRead.Valid interval
+  pub is-next : interval .number ≡ e .fed
+  pub settings : labelMeets (labelOf e) ≡ true
+  pub settings-kept : labelOf next ≡ labelOf e
+  pub one-more : next .fed ≡ e .fed + 1
+  pub on-loss : Follows (e .n) (e .fed) (lossOf e) (lossMark (labelOf e) interval) (answer .loss) (lossOf next)
+  pub on-composite : Follows (e .n) (e .fed) (compositeOf e) (compositeMark (labelOf e) interval) (answer .composite) (compositeOf next)
+
+-- every test of a step that is not refused was passed
+
+module _ (e next : Evaluator) (answer : Answer) where
+  passed-number :
+      (v : Interval) (is-next : Bool) →
+      cond is-next (Stepped.Fed (fedWith (heldOf e) (e .fed) v) (answerOf (heldOf e) v)) (Stepped.Refused (refusal Fault.Order 0)) ≡ Stepped.Fed next answer →
+      (is-next ≡ true) × (fedWith (heldOf e) (e .fed) v ≡ next) × (answerOf (heldOf e) v ≡ answer)
+  passed-number v true h = (refl, (cc), (cc))
+  passed-number v false h = let z : _≡_ {A = ℕ} 0 1 = cc in absurd (omega arith)
+
+  passed :
+      (whole valid : Bool) (i : IntervalRead) →
+      cond whole (cond valid (stepWith e i) (Stepped.Refused (refusal Fault.Field 0))) (Stepped.Refused (refusal Fault.Length 0)) ≡ Stepped.Fed next answer →
+      (valid ≡ true) × (v : Interval) × (i ≡ IntervalRead.Valid v) × (eqb (v .number) (e .fed) ≡ true) × (fedWith (heldOf e) (e .fed) v ≡ next) × (answerOf (heldOf e) v ≡ answer)
+  passed false valid i h = let z : _≡_ {A = ℕ} 0 1 = cc in absurd (omega arith)
+  passed true false i h = let z : _≡_ {A = ℕ} 0 1 = cc in absurd (omega arith)
+  passed true true IntervalRead.Invalid h = let z : _≡_ {A = ℕ} 0 1 = cc in absurd (omega arith)
+  passed true true (IntervalRead.Valid v) h =
+      let t = passed-number v (eqb (v .number) (e .fed)) h in
+      (refl, v, refl, t .0, t .1, t .2)
+
+-- so both tracks follow
+accepted : (e : Evaluator) (r : List ℕ) (v : Interval) → evaluatorMeets e ≡ true → intervalOf r ≡ IntervalRead.Valid v → v .number ≡ e .fed → Accepted e r (fedWith (heldOf e) (e .fed) v) (answerOf (heldOf e) v)
+unfolding fedWith answerOf
+accepted e r v valid read number =
+    let settings : labelMeets (labelOf e) ≡ true = evaluator-rules e valid .settings in
+    let some : 1 ≤ e .n = label-valid (labelOf e) settings .n-facts .0 in
+    let loss = follows (e .n) (e .fed) (lossOf e) (lossMark (labelOf e) v) some (valid-possible e valid .0) in
+    let composite = follows (e .n) (e .fed) (compositeOf e) (compositeMark (labelOf e) v) some (valid-possible e valid .1) in
+    record {
+      interval = v;
+      is-read = read;
+      is-next = number;
+      settings = settings;
+      settings-kept = refl;
+      one-more = refl;
+      on-loss = rw held-track loss;
+      on-composite = rw held-track composite;
+    }
+
+-- a step that is not refused answers by the definition, on every evaluator
+pub steps-accepted : (e : Evaluator) (r : List ℕ) (next : Evaluator) (answer : Answer) → stepOf e r ≡ Stepped.Fed next answer → Accepted e r next answer
+unfolding stepOf
+steps-accepted e r next answer h =
+    let t = passed e next answer (eqb (length r) 48) (evaluatorMeets e) (intervalOf r) h in
+    let v = t .1 in
+    subst (λ x. Accepted e r x answer) (t .4)
+    (subst (Accepted e r (fedWith (heldOf e) (e .fed) v)) (t .5) (accepted e r v (t .0) (t .2) (eqb-true (v .number) (e .fed) (t .3))))

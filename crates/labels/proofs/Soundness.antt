@@ -17,7 +17,7 @@ use Rattle.intervals.specs.declared.Sequence.{Sequence}
 use Rattle.labels.specs.Stretch.{intervalsOf}
 
 -- where the number is the next, the rest decides
-sound-rest : (b : Bool) (place : ℕ) (rest : Sequence) → orderedIf b place rest ≡ Sequence.Sound → rest ≡ Sequence.Sound
+pub sound-rest : (b : Bool) (place : ℕ) (rest : Sequence) → orderedIf b place rest ≡ Sequence.Sound → rest ≡ Sequence.Sound
 sound-rest true place rest e = e
 sound-rest false place rest e = cc
 
