@@ -1,117 +1,148 @@
 -- The third demand. A circuit's intervals, cut anywhere, summarised stretch by stretch without knowing what came before and joined in any grouping, give byte for byte the
--- record of the uncut sequence; and the report on before, period and after is the definition's over the sequence so far.
+-- record of the uncut sequence (`any-cut`); the report on before, period and after is the definition's over the sequence so far (`report-of-cuts`), and the verdicts on a set of
+-- such are those of the definition's reports (`verdicts-of-cuts`). Stretches may be summarised under settings that differ in objectives, and each record may be written at any offset of
+-- any buffer with room: of each call nothing is known but its contract.
 -- Assumes nothing.
 use mathlib.Core.Path.{_≡_, refl, ap, sym, _∙_, subst}
-use mathlib.Core.List.{List, _++_}
-use Prim.Native.Nat.{ℕ, _+_, _*_, _/_}
+use mathlib.Core.List.{List, [], _∷_, _++_, map}
+use Prim.Native.Nat.{ℕ, _+_, _*_, _/_, _≤_}
 use native.Mathlib.Omega.{arith}
-use lib.ListN.{length}
-use Rattle.numbers.specs.Limits.{intervals}
+use lib.ListN.{length, length-map}
+use Rattle.numbers.specs.Limits.{intervals, pairs}
 use Rattle.settings.specs.Settings.{settingsOf}
 use Rattle.settings.specs.declared.LabelSettings.{LabelSettings}
 use Rattle.settings.specs.declared.Settings.{Settings}
 use Rattle.settings.specs.declared.SettingsRead.{SettingsRead}
-use Rattle.rule.specs.Labels.{Label}
-use Rattle.labels.proofs.Placing.{read-label}
-use Rattle.tallies.specs.Report.{Labelled, report}
+use Rattle.tallies.specs.Report.{Labelled}
+use Rattle.verdicts.specs.Verdicts.{verdictsOf}
+use Rattle.verdicts.specs.Sets.{ofSets}
 use Rattle.summaries.specs.Stored.{summaryBytes}
-use Rattle.summaries.specs.declared.Summary.{Summary}
-use Rattle.gathering.specs.declared.Gathered.{Gathered}
-use Rattle.making.specs.Making.{made}
+use Rattle.making.specs.declared.Made.{Made}
 use Rattle.periods.specs.Stretches.{madeBytes, bytes-held}
-use Rattle.reports.specs.Circuits.{Circuit, threeBytes}
+use Rattle.reports.specs.Circuits.{Circuit, threeBytes, setBytes, defined}
 use Rattle.reports.specs.Three.{reportOf}
 use Rattle.reports.specs.declared.Reported.{Reported}
-use Rattle.reports.proofs.Defined as defined
-use Rattle.demands.specs.Cuts.{Cut, uncut, BetweenRecords, behind, summarised}
-use Rattle.demands.proofs.AnyCut.{held, summaryAt, Sound, sound-facts, held-many, held-both, left-sound, right-sound, uncut-whole, cut-written, taken}
+use Rattle.reports.proofs.Defined as reports
+use Rattle.sets.specs.Sets.{judgedOf}
+use Rattle.sets.specs.declared.Judged.{Judged}
+use Rattle.sets.proofs.Defined as sets
+use Rattle.demands.specs.Cuts.{Cut, uncut, BetweenRecords, Under, behind, SummaryCalled, Gives, NoneRefused}
+use Rattle.demands.specs.Pairs.{Pair, held, allOf, circuitOf, Known, PairGives, AllKnown, AllGive}
+use Rattle.demands.proofs.AnyCut.{summaryAt, Sound, sound-facts, held-many, held-both, left-sound, right-sound, uncut-whole, under-valid, stretch-gives, cut-gives, taken}
 
--- Where `summary` takes the records of the uncut sequence, every cut and every grouping of them gives its bytes.
+-- Where `summary` takes the records of the uncut sequence, every cut and every grouping of them gives its bytes, and no call on the way is refused.
 pub any-cut :
-    (settings : List ℕ) (first : ℕ) (c : Cut) → BetweenRecords c → (x : Summary) → made settings first (uncut c) 1024 0 ≡ Gathered.Good x →
-    summarised settings first c ≡ summaryBytes x
-any-cut settings first c cuts x e =
-    let t = taken settings first (uncut c) x e in
-    cut-written settings (t .by) (t .read) first c cuts (t .sound) ∙ ap summaryBytes (sym (t .same))
+    (settings : List ℕ) (v : Settings) → settingsOf settings ≡ SettingsRead.Valid v → (first : ℕ) (c : Cut) → BetweenRecords c → Under (v .label) c →
+    (whole : List ℕ) (w : SummaryCalled settings first (uncut c) whole) → w .answer ≡ Made.Written → (bytes : List ℕ) (g : Gives first c bytes) → (bytes ≡ whole) × NoneRefused first c bytes g
+any-cut settings v read first c cuts under whole w written bytes g =
+    let sound = taken settings first (uncut c) (length (w .out)) (w .at) (sym written ∙ w .contract .answered) in
+    let n = uncut-whole c cuts in
+    let a = cut-gives (v .label) (under-valid (v .label) c under) first c cuts under sound bytes g in
+    let b = stretch-gives (v .label) settings v read refl first (uncut c) (n .0) (n .1) sound whole w in
+    (a .0 ∙ sym (b .0), a .1)
 
--- Where it takes the records of before, period and after, each of them cut and grouped in any way, the report on the three summaries is the definition's, by whatever
--- labels are those of all the intervals.
-
+-- the bytes of a summary, by the number of intervals before it
 bytes-made : (l : LabelSettings) (first k : ℕ) (s : List ℕ) → first ≡ k → summaryBytes (summaryAt l first s) ≡ madeBytes l k (held s)
 bytes-made l first k s e = ap (λ j. summaryBytes (summaryAt l j s)) e ∙ sym (bytes-held l k (held s))
 
-module _ (settings : List ℕ) (v : Settings) (read : settingsOf settings ≡ SettingsRead.Valid v) (a b c : Cut) (cuts-a : BetweenRecords a) (cuts-b : BetweenRecords b)
-    (cuts-c : BetweenRecords c) (x : Summary) (e : made settings 0 (uncut a ++ (uncut b ++ uncut c)) 1024 0 ≡ Gathered.Good x) where
-  sound : Sound 0 (uncut a ++ (uncut b ++ uncut c))
-  sound = taken settings 0 (uncut a ++ (uncut b ++ uncut c)) x e .sound
+-- one pair
 
-  p : (n : ℕ) × (length (uncut a) ≡ n * 48)
-  p = uncut-whole a cuts-a
+module _ (l : LabelSettings) (x : Pair) (h : Known l x) where
+  abbrev a : List ℕ
+  a = uncut (x .before)
 
-  q : (n : ℕ) × (length (uncut b) ≡ n * 48)
-  q = uncut-whole b cuts-b
+  abbrev b : List ℕ
+  b = uncut (x .period)
 
-  sound-a : Sound 0 (uncut a)
-  sound-a = left-sound 0 (uncut a) (uncut b ++ uncut c) (p .0) (p .1) sound
+  abbrev c : List ℕ
+  c = uncut (x .after)
 
-  sound-bc : Sound (behind 0 (uncut a)) (uncut b ++ uncut c)
-  sound-bc = right-sound 0 (uncut a) (uncut b ++ uncut c) (p .0) (p .1) sound
+  sound : Sound 0 (a ++ (b ++ c))
+  sound = record { from = omega arith; checks = h .checks }
 
-  sound-b : Sound (behind 0 (uncut a)) (uncut b)
-  sound-b = left-sound (behind 0 (uncut a)) (uncut b) (uncut c) (q .0) (q .1) sound-bc
+  p : (n : ℕ) × (length a ≡ n * 48)
+  p = uncut-whole (x .before) (h .before-cut)
 
-  sound-c : Sound (behind (behind 0 (uncut a)) (uncut b)) (uncut c)
-  sound-c = right-sound (behind 0 (uncut a)) (uncut b) (uncut c) (q .0) (q .1) sound-bc
+  q : (n : ℕ) × (length b ≡ n * 48)
+  q = uncut-whole (x .period) (h .period-cut)
 
-  many-a : length (held (uncut a)) ≡ length (uncut a) / 48
-  many-a = held-many 0 (uncut a) sound-a
+  sound-a : Sound 0 a
+  sound-a = left-sound 0 a (b ++ c) (p .0) (p .1) sound
 
-  many-b : length (held (uncut b)) ≡ length (uncut b) / 48
-  many-b = held-many (behind 0 (uncut a)) (uncut b) sound-b
+  sound-bc : Sound (behind 0 a) (b ++ c)
+  sound-bc = right-sound 0 a (b ++ c) (p .0) (p .1) sound
 
-  all-held : held (uncut a ++ (uncut b ++ uncut c)) ≡ held (uncut a) ++ (held (uncut b) ++ held (uncut c))
-  all-held = held-both (uncut a) (uncut b ++ uncut c) (p .0) (p .1) ∙ ap (λ vs. held (uncut a) ++ vs) (held-both (uncut b) (uncut c) (q .0) (q .1))
+  sound-b : Sound (behind 0 a) b
+  sound-b = left-sound (behind 0 a) b c (q .0) (q .1) sound-bc
 
-  circuit : (ℕ → Label) → (ℕ → Label) → Circuit
-  circuit loss composite = record { before = held (uncut a); middle = held (uncut b); behind = held (uncut c); loss = loss; composite = composite }
+  sound-c : Sound (behind (behind 0 a) b) c
+  sound-c = right-sound (behind 0 a) b c (q .0) (q .1) sound-bc
 
-  three-written :
-      (loss composite : ℕ → Label) →
-      summarised settings 0 a ++ (summarised settings (behind 0 (uncut a)) b ++ summarised settings (behind (behind 0 (uncut a)) (uncut b)) c)
-      ≡ threeBytes (v .label) (circuit loss composite)
-  unfolding threeBytes circuit
-  three-written loss composite =
-      rw (
-        cut-written settings v read 0 a cuts-a sound-a,
-        cut-written settings v read (behind 0 (uncut a)) b cuts-b sound-b,
-        cut-written settings v read (behind (behind 0 (uncut a)) (uncut b)) c cuts-c sound-c,
-        bytes-made (v .label) 0 0 (uncut a) refl,
-        bytes-made (v .label) (behind 0 (uncut a)) (length (held (uncut a))) (uncut b) (omega (arith, many-a)),
-        bytes-made (v .label) (behind (behind 0 (uncut a)) (uncut b)) (length (held (uncut a)) + length (held (uncut b))) (uncut c) (omega (arith, many-a, many-b)),
+  many-a : length (held a) ≡ length a / 48
+  many-a = held-many 0 a sound-a
+
+  many-b : length (held b) ≡ length b / 48
+  many-b = held-many (behind 0 a) b sound-b
+
+  all-held : held (a ++ (b ++ c)) ≡ held a ++ (held b ++ held c)
+  all-held = held-both a (b ++ c) (p .0) (p .1) ∙ ap (λ vs. held a ++ vs) (held-both b c (q .0) (q .1))
+
+  -- its three summaries are those made of its intervals
+  pair-bytes : (bytes : List ℕ) → PairGives x bytes → bytes ≡ threeBytes l (circuitOf x)
+  unfolding threeBytes
+  pair-bytes bytes g =
+      let valid = under-valid l (x .before) (h .before-under) in
+      let left = cut-gives l valid 0 (x .before) (h .before-cut) (h .before-under) sound-a (g .left) (g .before) .0 in
+      let middle = cut-gives l valid (behind 0 a) (x .period) (h .period-cut) (h .period-under) sound-b (g .middle) (g .period) .0 in
+      let right = cut-gives l valid (behind (behind 0 a) b) (x .after) (h .after-cut) (h .after-under) sound-c (g .right) (g .after) .0 in
+      g .in-order
+      ∙ rw (
+        left,
+        middle,
+        right,
+        bytes-made l 0 0 a refl,
+        bytes-made l (behind 0 a) (length (held a)) b (omega (arith, many-a)),
+        bytes-made l (behind (behind 0 a) b) (length (held a) + length (held b)) c (omega (arith, many-a, many-b)),
       )
       refl
 
-  circuit-sound :
-      (loss composite : ℕ → Label) → Labelled (v .label) (held (uncut a ++ (uncut b ++ uncut c))) loss composite → defined.Sound (v .label) (circuit loss composite)
-  unfolding circuit
-  circuit-sound loss composite h =
-      let fa = sound-facts 0 (uncut a) sound-a in
-      let fb = sound-facts (behind 0 (uncut a)) (uncut b) sound-b in
-      let fc = sound-facts (behind (behind 0 (uncut a)) (uncut b)) (uncut c) sound-c in
+  pair-sound : reports.Sound l (circuitOf x)
+  pair-sound =
+      let fa = sound-facts 0 a sound-a in
+      let fb = sound-facts (behind 0 a) b sound-b in
+      let fc = sound-facts (behind (behind 0 a) b) c sound-c in
       record {
         before = fa .valid;
         middle = fb .valid;
         behind = fc .valid;
         room = omega (arith, many-a, many-b, fc .many, fc .within);
-        labelled = subst (λ vs. Labelled (v .label) vs loss composite) all-held h;
+        labelled = subst (λ vs. Labelled l vs (x .loss) (x .composite)) all-held (h .labelled);
       }
 
-  pub report-of-cuts :
-      (loss composite : ℕ → Label) → Labelled (v .label) (held (uncut a ++ (uncut b ++ uncut c))) loss composite →
-      reportOf (summarised settings 0 a ++ (summarised settings (behind 0 (uncut a)) b ++ summarised settings (behind (behind 0 (uncut a)) (uncut b)) c))
-      ≡ Reported.Answered (report (v .label) loss composite (length (uncut a) / 48) (held (uncut b)))
-  unfolding circuit
-  report-of-cuts loss composite h =
-      ap reportOf (three-written loss composite)
-      ∙ defined.report-defined (v .label) (read-label settings v read) (circuit loss composite) (circuit-sound loss composite h)
-      ∙ ap (λ k. Reported.Answered (report (v .label) loss composite k (held (uncut b)))) many-a
+  -- The report on before, period and after, each of them cut and grouped in any way, is the definition's, by whatever labels are those of all the intervals.
+  pub report-of-cuts : (bytes : List ℕ) → PairGives x bytes → reportOf bytes ≡ Reported.Answered (defined l (circuitOf x))
+  report-of-cuts bytes g =
+      ap reportOf (pair-bytes bytes g) ∙ reports.report-defined l (under-valid l (x .before) (h .before-under)) (circuitOf x) pair-sound
+
+-- several pairs
+
+set-bytes : (l : LabelSettings) (xs : List Pair) → AllKnown l xs → (bytes : List ℕ) → AllGive xs bytes → bytes ≡ setBytes l (map circuitOf xs)
+unfolding AllKnown AllGive setBytes
+set-bytes l [] h bytes g = g
+set-bytes l (x ∷ xs) h bytes (one, rest, here, there, e) =
+    e ∙ ap (λ s. s ++ rest) (pair-bytes l x (h .0) one here) ∙ ap (λ s. threeBytes l (circuitOf x) ++ s) (set-bytes l xs (h .1) rest there)
+
+set-sound : (l : LabelSettings) (xs : List Pair) → AllKnown l xs → sets.AllSound l (map circuitOf xs)
+unfolding AllKnown sets.AllSound
+set-sound l [] h = tt
+set-sound l (x ∷ xs) h = (pair-sound l x (h .0), set-sound l xs (h .1))
+
+-- The verdicts on a set of such pairs are those of the definition's reports, one pair after the other.
+pub verdicts-of-cuts :
+    (settings : List ℕ) (v : Settings) → settingsOf settings ≡ SettingsRead.Valid v → (xs : List Pair) → AllKnown (v .label) xs → 1 ≤ length xs → length xs ≤ pairs →
+    (bytes : List ℕ) → AllGive xs bytes → judgedOf settings (length xs) bytes ≡ Judged.Answered (ofSets (map (λ x. verdictsOf v (defined (v .label) x)) (map circuitOf xs)))
+verdicts-of-cuts settings v read xs h some few bytes g =
+    let n : length (map circuitOf xs) ≡ length xs = length-map xs circuitOf in
+    ap (judgedOf settings (length xs)) (set-bytes (v .label) xs h bytes g)
+    ∙ ap (λ k. judgedOf settings k (setBytes (v .label) (map circuitOf xs))) (sym n)
+    ∙ sets.verdicts-defined settings v read (map circuitOf xs) (set-sound (v .label) xs h) (omega (arith, n)) (omega (arith, n))

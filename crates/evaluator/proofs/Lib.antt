@@ -1,4 +1,4 @@
-pub mod Determined
+pub mod Coinciding
 pub mod Following
 pub mod Places
 pub mod Words

@@ -114,6 +114,6 @@ module _ (left right out : List ℕ) (at : ℕ) where
                   (rw (eq-eqb (length left) 1024 whole-left, eq-eqb (length right) 1024 whole-right, room, read-left, read-right, same, eq-eqb (x .after) (y .first) h)) refl b
 
 -- two results that the contract allows are one
-pub outcome-one :
+pub outcomes-coincide :
     {left right out : List ℕ} {at : ℕ} {a b : Joined} {x y : List ℕ} → Outcome left right out at a x → Outcome left right out at b y → (a ≡ b) × (x ≡ y)
-outcome-one p q = (p .answered ∙ sym (q .answered), p .left-in ∙ sym (q .left-in))
+outcomes-coincide p q = (p .answered ∙ sym (q .answered), p .left-in ∙ sym (q .left-in))

@@ -1,4 +1,4 @@
-pub mod Determined
+pub mod Coinciding
 pub mod Lanes
 pub mod Meant
 pub mod Places

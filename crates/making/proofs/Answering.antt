@@ -65,7 +65,7 @@ module _ (settings : List ℕ) (first : ℕ) (s out : List ℕ) (at : ℕ) where
           written x e b = owed (Gathered.Good x) (rw (valid, whole, room, le-ltb intervals first known) e) refl b
 
 -- two results that the contract allows are one
-pub outcome-one :
+pub outcomes-coincide :
     {settings : List ℕ} {first : ℕ} {s out : List ℕ} {at : ℕ} {a b : Made} {x y : List ℕ} →
     Outcome settings first s out at a x → Outcome settings first s out at b y → (a ≡ b) × (x ≡ y)
-outcome-one p q = (p .answered ∙ sym (q .answered), p .left ∙ sym (q .left))
+outcomes-coincide p q = (p .answered ∙ sym (q .answered), p .left ∙ sym (q .left))

@@ -111,7 +111,7 @@ module _ (settings s : List ℕ) (number maintenance : ℕ) (out : List ℕ) (at
         made i e b = owed (Judged.Good i) (rw (valid, whole, room) e) refl b
 
 -- two results that the contract allows are one
-pub outcome-one :
+pub outcomes-coincide :
     {settings s : List ℕ} {number maintenance : ℕ} {out : List ℕ} {at : ℕ} {a b : Answer} {x y : List ℕ} →
     Outcome settings s number maintenance out at a x → Outcome settings s number maintenance out at b y → (a ≡ b) × (x ≡ y)
-outcome-one p q = (p .answered ∙ sym (q .answered), p .left ∙ sym (q .left))
+outcomes-coincide p q = (p .answered ∙ sym (q .answered), p .left ∙ sym (q .left))

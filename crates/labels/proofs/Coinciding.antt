@@ -5,6 +5,6 @@ use Prim.Native.Nat.{ℕ}
 use Rattle.labels.specs.Stretch.{Outcome, outcome, labelsOf}
 use Rattle.labels.specs.declared.stretch.Labelled.{Labelled}
 
-pub labels-determined :
+pub labels-coincide :
     (s r out : List ℕ) (at : ℕ) {a b : Labelled} {x y : List ℕ} → outcome a x ≡ labelsOf s r out at → outcome b y ≡ labelsOf s r out at → (a ≡ b) × (x ≡ y)
-labels-determined s r out at p q = (ap (λ (o : Outcome). o .answer) (p ∙ sym q), ap (λ (o : Outcome). o .buffer) (p ∙ sym q))
+labels-coincide s r out at p q = (ap (λ (o : Outcome). o .answer) (p ∙ sym q), ap (λ (o : Outcome). o .buffer) (p ∙ sym q))

@@ -9,12 +9,12 @@ use Rattle.evaluator.specs.declared.Started.{Started}
 use Rattle.evaluator.specs.declared.Stepped.{Stepped}
 use Rattle.evaluator.specs.declared.Told.{Told}
 
-pub start-determined : (s : List ℕ) {a b : Started} → a ≡ startOf s → b ≡ startOf s → a ≡ b
-start-determined s p q = p ∙ sym q
+pub start-coincide : (s : List ℕ) {a b : Started} → a ≡ startOf s → b ≡ startOf s → a ≡ b
+start-coincide s p q = p ∙ sym q
 
-pub step-determined : (e : Evaluator) (r : List ℕ) {a b : Stepped} → a ≡ stepOf e r → b ≡ stepOf e r → a ≡ b
-step-determined e r p q = p ∙ sym q
+pub step-coincide : (e : Evaluator) (r : List ℕ) {a b : Stepped} → a ≡ stepOf e r → b ≡ stepOf e r → a ≡ b
+step-coincide e r p q = p ∙ sym q
 
 -- the evaluator that is left, and the answer
-pub step-in-determined : (e : Evaluator) (r : List ℕ) {x y : Evaluator} {a b : Told} → movedTo x a ≡ movedOf e r → movedTo y b ≡ movedOf e r → (x ≡ y) × (a ≡ b)
-step-in-determined e r p q = (ap (λ (m : Moved). m .evaluator) (p ∙ sym q), ap (λ (m : Moved). m .told) (p ∙ sym q))
+pub step-in-coincide : (e : Evaluator) (r : List ℕ) {x y : Evaluator} {a b : Told} → movedTo x a ≡ movedOf e r → movedTo y b ≡ movedOf e r → (x ≡ y) × (a ≡ b)
+step-in-coincide e r p q = (ap (λ (m : Moved). m .evaluator) (p ∙ sym q), ap (λ (m : Moved). m .told) (p ∙ sym q))
