@@ -8,7 +8,7 @@ use mathlib.Core.List.{List, [], _∷_, _++_, map}
 use Prim.Native.Nat.{ℕ, _+_, _*_, _/_, _≤_}
 use native.Mathlib.Omega.{arith}
 use lib.ListN.{length, length-map}
-use Rattle.numbers.specs.Limits.{intervals, pairs}
+use Rattle.numbers.specs.Limits.{pairs}
 use Rattle.settings.specs.Settings.{settingsOf}
 use Rattle.settings.specs.declared.LabelSettings.{LabelSettings}
 use Rattle.settings.specs.declared.Settings.{Settings}
@@ -19,7 +19,7 @@ use Rattle.verdicts.specs.Sets.{ofSets}
 use Rattle.summaries.specs.Stored.{summaryBytes}
 use Rattle.making.specs.declared.Made.{Made}
 use Rattle.periods.specs.Stretches.{madeBytes, bytes-held}
-use Rattle.reports.specs.Circuits.{Circuit, threeBytes, setBytes, defined}
+use Rattle.reports.specs.Circuits.{threeBytes, setBytes, defined}
 use Rattle.reports.specs.Three.{reportOf}
 use Rattle.reports.specs.declared.Reported.{Reported}
 use Rattle.reports.proofs.Defined as reports
@@ -27,7 +27,7 @@ use Rattle.sets.specs.Sets.{judgedOf}
 use Rattle.sets.specs.declared.Judged.{Judged}
 use Rattle.sets.proofs.Defined as sets
 use Rattle.demands.specs.Cuts.{Cut, uncut, BetweenRecords, Under, behind, SummaryCalled, Gives, NoneRefused}
-use Rattle.demands.specs.Pairs.{Pair, held, allOf, circuitOf, Known, PairGives, AllKnown, AllGive}
+use Rattle.demands.specs.Pairs.{Pair, held, circuitOf, Known, PairGives, AllKnown, AllGive}
 use Rattle.demands.proofs.AnyCut.{summaryAt, Sound, sound-facts, held-many, held-both, left-sound, right-sound, uncut-whole, under-valid, stretch-gives, cut-gives, taken}
 
 -- Where `summary` takes the records of the uncut sequence, every cut and every grouping of them gives its bytes, and no call on the way is refused.
