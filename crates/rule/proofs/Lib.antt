@@ -1,5 +1,4 @@
 pub mod Continuing
-pub mod Edges
 pub mod Fractions
 pub mod Labelling
 pub mod Products

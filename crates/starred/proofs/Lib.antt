@@ -1,2 +1,1 @@
--- The starred lines of document 01 that need more than one crate's definitions.
-pub mod FromFrames
+pub mod Table

@@ -1,1 +1,1 @@
-pub mod FromFrames
+pub mod Lines

@@ -1,1 +1,1 @@
-// No code: the starred lines of document 01 that need more than one crate's definitions, as theorems (proofs/).
+// No code: document 01's starred lines as one computed table (proofs/Table.antt).

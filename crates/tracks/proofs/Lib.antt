@@ -8,5 +8,4 @@ pub mod Reading
 pub mod Keeping
 pub mod Fitting
 pub mod Serving
-pub mod Starred
 pub mod Bounding
