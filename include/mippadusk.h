@@ -113,17 +113,19 @@ uint64_t mip_summary(const uint8_t *settings, size_t settings_len,
                      const uint8_t *intervals, size_t intervals_len,
                      uint8_t *out, size_t out_len, size_t at);
 
-/* The summary of two adjoining stretches, from theirs. It is byte for byte the one that mip_summary makes of all the intervals at once,
- * however a stretch was cut and in whatever order its parts are joined. An empty summary at either end changes nothing.
+/* The summary of two adjoining stretches, from theirs. Of summaries that mip_summary or mip_join wrote it is byte for byte the one that
+ * mip_summary makes of all the intervals at once, however a stretch was cut and in whatever order its parts are joined. An empty summary at
+ * either end changes nothing.
  *
- * left, right  summaries, 1,024 bytes each, made or joined under equal label settings; `right` begins where `left` ends
+ * left, right  valid summaries, 1,024 bytes each, of equal label settings; `right` begins where `left` ends. A summary is valid where it
+ *              meets the rules of docs/RECORDS.md, as every one does that mip_summary or mip_join wrote
  * out, at      the summary of both is written into the 1,024 bytes of `out` from byte `at` on; the bytes before and behind stay as
  *              they are
  *
  * Refusals, in this order: MIP_LENGTH where `left` or `right` is not 1,024 bytes; MIP_ROOM where `out` has fewer than 1,024 bytes from
  * `at` on; MIP_FIELD at 0 where `left` breaks a rule, at 1 where `right` does; MIP_MISMATCH at 1 where their label settings differ;
- * MIP_ORDER at 1 where `right` does not begin where `left` ends. Summaries that were made or joined here, adjoin and have equal label
- * settings are never refused, given room. */
+ * MIP_ORDER at 1 where `right` does not begin where `left` ends. So valid summaries that adjoin and have equal label settings are never
+ * refused, given room, whoever wrote them; and what is written is valid again. */
 uint64_t mip_join(const uint8_t *left, size_t left_len,
                   const uint8_t *right, size_t right_len,
                   uint8_t *out, size_t out_len, size_t at);

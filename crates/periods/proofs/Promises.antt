@@ -1,6 +1,6 @@
 -- What is promised of summaries to those above. A summary that is made of intervals is read back, with their numbers and settings. The report of the middle
--- of three made ones is the definition's, by the labels of all that is known. And every report of three known ones, made or not, keeps to an interval's rules and counts no more than
--- there is.
+-- of three made ones is the definition's, by the labels of all that is known. And every report of three known ones, made or not, keeps to an interval's rules and accounts for each
+-- interval of its period.
 -- Assumes nothing.
 use mathlib.Core.Path.{_≡_, refl, ap, sym, _∙_, subst}
 use mathlib.Core.Bool.{Bool, true, false, cond}
@@ -15,7 +15,7 @@ use Rattle.intervals.specs.declared.Interval.{Interval}
 use Rattle.rule.specs.Labels.{Label}
 use Rattle.labels.specs.Marked.{lossMark, compositeMark}
 use Rattle.tallies.specs.declared.Marked.{Marked}
-use Rattle.tallies.specs.Bounds.{TallyBounded, PeriodBounded}
+use Rattle.tallies.specs.Bounds.{TallyBounded, PeriodBounded, Accounted}
 use Rattle.tallies.specs.Report.{counted, resting, Labelled, report}
 use Rattle.tallies.specs.Seen.{markedAs, lossSeen, compositeSeen}
 use Rattle.tallies.specs.Tally.{tally, totalled, Labels, marks, serving}
@@ -121,24 +121,23 @@ module _ (l : LabelSettings) (some : 1 ≤ l .n) (before middle behind : List In
 
 -- every report of three known ones
 
+between-count : (n p : ℕ) (a b c : Track) → between n p a b c .available .count + between n p a b c .unavailable + between n p a b c .undecided .count ≡ countIn b
+unfolding between
+between-count n p a b c =
+    omega (
+      arith,
+      whole-count n p (join n p (join n p (quiet a) b) (quiet c)),
+      count-join n p (join n p (quiet a) b) (quiet c),
+      count-join n p (quiet a) b,
+      count-none a,
+      count-none c,
+    )
+
 between-bounded : (n p : ℕ) (a b c : Track) → BetweenFits n p a b c → (len : ℕ) → TrackValid n p len b → TallyBounded p len (between n p a b c)
 unfolding between
 between-bounded n p a b c f len valid =
     let w = whole-bounded n p (f .i + f .j + f .k) (join n p (join n p (quiet a) b) (quiet c)) (all-valid n p a b c f) in
-    record {
-      available = w .available;
-      undecided = w .undecided;
-      counted =
-          omega (
-            arith,
-            whole-count n p (join n p (join n p (quiet a) b) (quiet c)),
-            count-join n p (join n p (quiet a) b) (quiet c),
-            count-join n p (quiet a) b,
-            count-none a,
-            count-none c,
-            count-valid n p len b valid,
-          );
-    }
+    record { available = w .available; undecided = w .undecided; counted = omega (arith, between-count n p a b c, count-valid n p len b valid) }
 
 pub period-bounded : (a b c : Stretch) → Known a b c → PeriodBounded (labelOf b .p) (periodOf a b c)
 period-bounded a b c h =
@@ -146,3 +145,15 @@ period-bounded a b c h =
     let loss = between-bounded (b .held .label .n) (b .held .label .p) (a .held .loss) (b .held .loss) (c .held .loss) (loss-fits a b c t) (b .held .after - b .held .first) (t .middle .loss) in
     let composite = between-bounded (b .held .label .n) (b .held .label .p) (a .held .composite) (b .held .composite) (c .held .composite) (composite-fits a b c t) (b .held .after - b .held .first) (t .middle .composite) in
     rw (period-held a b c, label-held b) (record { long = omega (arith, t .middle .within); loss = loss; counted = composite .counted })
+
+pub period-accounted : (a b c : Stretch) → Known a b c → Accounted (periodOf a b c)
+period-accounted a b c h =
+    let m = known-three a b c h .middle in
+    let n = b .held .label .n in
+    let p = b .held .label .p in
+    let few = count-valid n p (b .held .after - b .held .first) (b .held .loss) (m .loss) in
+    rw (period-held a b c)
+    (record {
+      loss = omega (arith, few, between-count n p (a .held .loss) (b .held .loss) (c .held .loss));
+      composite = omega (arith, few, m .counts, between-count n p (a .held .composite) (b .held .composite) (c .held .composite));
+    })

@@ -7,17 +7,18 @@ use mathlib.Core.List.{List}
 use Prim.Native.Nat.{ℕ, _+_}
 use native.Mathlib.Omega.{arith}
 use lib.Dec.{eqb}
+use lib.ListN.{length}
 use borrow.Author.Tests.{eqb-true}
 use Rattle.numbers.specs.Refusals.{refusal}
 use Rattle.numbers.specs.declared.refusal.Fault.{Fault}
 use Rattle.settings.specs.Settings.{sameLabel}
 use Rattle.settings.proofs.SettingsRecord.{same-label-equal}
-use Rattle.tallies.specs.Bounds.{PeriodBounded}
+use Rattle.tallies.specs.Bounds.{PeriodBounded, Accounted}
 use Rattle.tallies.specs.declared.Period.{Period}
 use Rattle.periods.specs.Stretches.{stretchOf, firstOf, afterOf, labelOf, periodOf, ThreeRead, Known}
 use Rattle.periods.specs.declared.Stretch.{Stretch}
 use Rattle.periods.specs.declared.StretchRead.{StretchRead}
-use Rattle.periods.proofs.Promises.{period-bounded}
+use Rattle.periods.proofs.Promises.{period-bounded, period-accounted}
 use Rattle.reports.specs.Three.{unless, suits, judgedThree, judgedReads, summaryAt, threeAt, reportOf}
 use Rattle.reports.specs.declared.Reported.{Reported}
 use Rattle.reports.specs.declared.Wanted.{Wanted}
@@ -129,6 +130,13 @@ answer-found w s base p e = reads-found w base _ _ _ p _ _ _ refl refl refl e
 -- so every report answered keeps to its bounds, for some p
 pub found-bounded : (p : Period) (f : Found p) → PeriodBounded (labelOf (f .b) .p) p
 found-bounded p f = subst (λ r. PeriodBounded (labelOf (f .b) .p) r) (f .told) (period-bounded (f .a) (f .b) (f .c) (f .known))
+
+-- Of whatever summaries `report` answers, made or only valid: its figures keep to the bounds, for the p of the summaries, and account for each interval of the period.
+pub report-sound : (s : List ℕ) (r : Period) → reportOf s ≡ Reported.Answered r → (p : ℕ) × PeriodBounded p r × Accounted r
+unfolding reportOf
+report-sound s r e =
+    let f = answer-found Wanted.Any s 0 r (passed (eqb (length s) 3072) Fault.Length 0 (threeAt Wanted.Any s 0) r e .1) in
+    (labelOf (f .b) .p, found-bounded r f, subst Accounted (f .told) (period-accounted (f .a) (f .b) (f .c) (f .known)))
 
 -- two results that the contract allows are one
 pub report-coincide : (s : List ℕ) (x y : Reported) → x ≡ reportOf s → y ≡ reportOf s → x ≡ y

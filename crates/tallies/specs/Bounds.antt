@@ -30,3 +30,8 @@ pub record PeriodBounded (p : ℕ) (r : Period) : Type 0 where
   pub long : r .length ≤ intervals
   pub loss : TallyBounded p (r .length) (r .loss)
   pub counted : r .composite .available + r .composite .unavailable + r .composite .undecided ≤ r .length
+
+-- a report accounts for each interval of its period: it is in maintenance, or has one of three labels on each track
+pub record Accounted (r : Period) : Type 0 where
+  pub loss : r .maintenance + (r .loss .available .count + r .loss .unavailable + r .loss .undecided .count) ≡ r .length
+  pub composite : r .maintenance + (r .composite .available + r .composite .unavailable + r .composite .undecided) ≡ r .length
