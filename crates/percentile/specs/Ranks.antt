@@ -1,7 +1,8 @@
 -- What the search for a delay by its rank says of its steps, all in counts of listed delays.
 use Prim.Native.Nat.{ℕ, _+_, _*_, _<_, _≤_}
 use mathlib.Core.Bool.{Bool, _&&_}
-use mathlib.Core.List.{List}
+use mathlib.Core.List.{List, List·Memᴰ}
+use mathlib.Core.Logic.{_⊎_}
 use mathlib.Core.Path.{_≡_}
 use lib.ListN.{getD, take}
 use lib.Dec.{ltb, eqb}
@@ -52,3 +53,17 @@ inside lo hi x = ltb lo x && ltb x hi
 pub record Collected (f : ℕ → Bool) (xs few : List ℕ) (n : ℕ) : Type 0 where
   pub counted : n ≡ howMany f xs
   pub content : take n few ≡ keep f xs
+
+-- Each delay of a sample is a listed one.
+abbrev pub Drawn : List ℕ → List ℕ → Type 0
+Drawn xs few = (d : ℕ) → List·Memᴰ d few → List·Memᴰ d xs
+
+-- The least or the largest number of 32 bits, or a listed delay.
+abbrev pub EndOrListed : List ℕ → ℕ → Type 0
+EndOrListed xs d = (d ≡ 0) ⊎ ((d ≡ 4294967295) ⊎ List·Memᴰ d xs)
+
+-- Pivots stand in order, and each is listed where it is no end.
+pub record Chosen (xs : List ℕ) (p : Pivots) : Type 0 where
+  pub ordered : p .lo ≤ p .hi
+  pub low : EndOrListed xs (p .lo)
+  pub high : EndOrListed xs (p .hi)

@@ -5,7 +5,7 @@ ghost use mathlib.Core.Path.{_≡_};
 ghost use Prim.Native.Nat.{ℕ, _^_, _<_, _≤_, min};
 ghost use lib.ListN.{length};
 ghost use Rattle.percentile.specs.Percentile.{keep, howMany};
-ghost use Rattle.percentile.specs.Ranks.{Ranked, Surveyed, Collected, inside};
+ghost use Rattle.percentile.specs.Ranks.{Ranked, Surveyed, Collected, Drawn, Chosen, inside};
 
 // Room for the delays between the pivots. A list of this length or less is searched directly.
 const FEW: usize = 32_768;
@@ -129,6 +129,7 @@ pub fn ranked(list: &[u32], p: Pivots, s: Counts, k: u32) -> u32
 // Delays from all over the list.
 fn sample(list: &[u32], few: &mut [u32])
     requires { ⌜ (0 < length (now list)) × (length (now list) < 2 ^ 32) × (length (now few) ≡ 16384) ⌝ }
+    ensures { λ _. ⌜ Drawn (now (list .entry)) (now (few .exit)) ⌝ }
 {
     let mut i = 0;
     while i < SAMPLE {
@@ -140,6 +141,7 @@ fn sample(list: &[u32], few: &mut [u32])
 // Two numbers, one most likely below and one above the delay of rank k, with few delays between them. Any two are right.
 pub fn choose(list: &[u32], k: u32) -> Pivots
     requires { ⌜ (0 < k) × (k ≤ length (now list)) × (length (now list) < 2 ^ 32) ⌝ }
+    ensures { λ r. ⌜ Chosen (now (list .entry)) r ⌝ }
 {
     if list.len() <= FEW {
         return Pivots { lo: 0, hi: 0 };

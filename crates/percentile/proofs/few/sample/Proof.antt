@@ -1,21 +1,21 @@
--- `sample` reads within the list: place i of 16,384 stands for i × length / 16,384, which is below the length.
+-- `sample` meets its contract. Place i of 16,384 stands for i × length / 16,384, which is below the length; the invariant: what has been
+-- stored is listed.
 use Prim.Native.Nat.{_-_}
-use mathlib.Core.Path.{_≡_}
 use borrow.Author.Needs.{needs}
 use native.Mathlib.Omega.{arith}
 use lib.ListN.{length}
-use Rattle.percentile.proofs.Sample.{spread-most, spread-within}
+use Rattle.percentile.proofs.Sample.{spread-most, spread-within, Drawing, drawing-start, drawing-step, drawing-end}
 use Rattle.percentile.proofs.few.sample.Statement.{statement}
 use Rattle.percentile.proofs.few.sample.Tie as tie
 
 abbrev Inv-loop : tie.InvT-loop
-Inv-loop list few₀ i₀ few i = length few ≡ length few₀
+Inv-loop list few₀ i₀ few i = Drawing list few₀ few i
 
 abbrev μ-loop : tie.MeasureT-loop
 μ-loop list few₀ i₀ few i = 16384 - i
 
 loop-holds : tie.Need-loop-holds Inv-loop μ-loop
-loop-holds c = search needs
+loop-holds c = drawing-start _ _
 
 mul-few : tie.Need-mul-few Inv-loop μ-loop
 mul-few c =
@@ -46,13 +46,13 @@ loop-less : tie.Need-loop-less Inv-loop μ-loop
 loop-less c = search needs
 
 loop-again : tie.Need-loop-again Inv-loop μ-loop
-loop-again c = search needs
+loop-again c = drawing-step _ _ _ _ _ (omega arith) (spread-within (c .before .before .loop .i) (length (c .before .before .before .args .list .now)) (c .before .loop-test .taken) (c .before .before .before .pre .0)) (c .before .before .loop .inv)
 
 same-length : tie.Need-same-length Inv-loop μ-loop
 same-length c = search needs
 
 returns : tie.Need-returns Inv-loop μ-loop
-returns c = search needs
+returns c = drawing-end _ _ _ _ (omega arith) (c .before .loop .inv)
 
 pub sample-spec : {M : Type 1} → statement M
 sample-spec =
