@@ -23,12 +23,14 @@ pub fn both(a: Summary, b: Summary) -> Summary
     let right = b.loss;
     let before = a.composite;
     let behind = b.composite;
+    let loss = tracks::join(l.n as u32, l.p as u32, left, right);
+    let composite = tracks::join(l.n as u32, l.p as u32, before, behind);
     Summary {
         first: a.first,
         after: b.after,
         label: l,
-        loss: tracks::join(l.n as u32, l.p as u32, left, right),
-        composite: tracks::join(l.n as u32, l.p as u32, before, behind),
+        loss,
+        composite,
     }
 }
 

@@ -10,7 +10,7 @@ use Rattle.evaluator.proofs.step.Tie as tie
 
 returns : tie.Need-returns
 unfolding stepOf
-returns c = rw (ne-eqb _ _ (c .if1 .taken))
+returns c = rw (ne-eqb _ 48 (c .if1 .taken))
 
 returns-2 : tie.Need-returns-2
 unfolding stepOf

@@ -1,6 +1,5 @@
 -- `joining::both` meets its contract: the tracks of adjoining summaries fit together.
 -- Assumes nothing.
-use mathlib.Core.Path.{refl}
 use Rattle.joining.specs.Joining.{joinedOf}
 use Rattle.joining.proofs.Judging.{loss-fits, composite-fits}
 use borrow.Author.Needs.{needs}
@@ -27,7 +26,17 @@ join-requires-2 c κs = composite-fits (c .before .before .before .before .befor
 
 returns : tie.Need-returns
 unfolding joinedOf
-returns c = rw (c .join2 .ensures, c .before .before .before .join .ensures) refl
+returns c =
+    let a = c .before .before .before .before .before .before .before .args .a in
+    let b = c .before .before .before .before .before .before .before .args .b in
+    λ i.
+    record {
+      first = a .first;
+      after = b .after;
+      label = a .label;
+      loss = c .before .before .before .join .ensures i;
+      composite = c .join2 .ensures i;
+    }
 
 pub both-spec : {M : Type 1} → statement M
 both-spec =

@@ -1,14 +1,15 @@
 -- `joining::join` meets its contract: one law of `Judging` for each way out, and the part that has room is filled whole.
 -- Assumes nothing.
-use mathlib.Core.Path.{sym, _∙_}
+use mathlib.Core.Path.{_≡_, ap, sym, _∙_}
 use Prim.Native.Nat.{_+_, _≤_}
 use native.Mathlib.Omega.{arith}
 use borrow.Author.Tests.{not-true, not-false}
 use lib.ListN.{length}
 use Rattle.numbers.proofs.Window.{room-within}
 use Rattle.settings.proofs.SettingsRecord.{same-label-equal}
+use Rattle.summaries.specs.Stored.{summaryBytes}
 use Rattle.summaries.proofs.Placing.{part-filled, size-summary}
-use Rattle.joining.specs.Joining.{Adjoining}
+use Rattle.joining.specs.Joining.{joinedOf, Adjoining}
 use Rattle.joining.proofs.Judging.{short-left, short-right, no-room, bad-left, bad-right, other-settings, apart, made}
 use borrow.Author.Needs.{needs}
 use Rattle.joining.proofs.join.Statement.{statement}
@@ -128,8 +129,11 @@ same-length c = search needs
 
 returns-8 : tie.Need-returns-8
 returns-8 c = let a = c .before .before .before .before .before .before .before .before .before .before .before .before .before .before .before .before .before .before .before .before .before .before .before .before .before .before .before .args in
-    made (a .left .now) (a .right .now) (a .out .now) (a .at) (c .before .before .before .before .before .before .before .before .before .before .before .before .before .before .before .before .before .before .before .before .before .before .before .if1 .left) (c .before .before .before .before .before .before .before .before .before .before .before .before .before .before .before .before .before .before .before .before .before .before .if2 .left) (sym (c .before .before .before .before .before .before .before .before .before .before .before .before .before .before .before .before .before .before .before .before .before .has-room .ensures) ∙ not-false _ (c .before .before .before .before .before .before .before .before .before .before .before .before .before .before .before .before .before .before .before .before .if3 .left)) (c .before .before .before .before .before .before .before .before .before .before .before .before .before .before .before .before .before .a .given .0 .0) (sym (c .before .before .before .before .before .before .before .before .before .before .before .before .before .before .before .before .before .before .before .read .ensures) ∙ c .before .before .before .before .before .before .before .before .before .before .before .before .before .before .before .before .before .a .given .1) (c .before .before .before .before .before .before .before .before .before .before .before .before .before .b .given .0 .0) (sym (c .before .before .before .before .before .before .before .before .before .before .before .before .before .before .before .read2 .ensures) ∙ c .before .before .before .before .before .before .before .before .before .before .before .before .before .b .given .1) (sym (c .before .before .before .before .before .before .before .before .before .same-label .ensures) ∙ not-false _ (c .before .before .before .before .before .before .before .before .if4 .left)) (c .before .before .before .before .before .if5 .left)
-    (rw (c .before .before .put .ensures, c .before .before .before .both .ensures) (part-filled (a .out .now) _ (a .at) 1024 (size-summary _)))
+    let x = c .before .before .before .before .before .before .before .before .before .before .before .before .before .before .before .before .before .a .given .0 .0 in
+    let y = c .before .before .before .before .before .before .before .before .before .before .before .before .before .b .given .0 .0 in
+    let joined : c .before .before .put .last .0 ≡ summaryBytes (joinedOf x y) = c .before .before .put .ensures ∙ ap summaryBytes (c .before .before .before .both .ensures) in
+    made (a .left .now) (a .right .now) (a .out .now) (a .at) (c .before .before .before .before .before .before .before .before .before .before .before .before .before .before .before .before .before .before .before .before .before .before .before .if1 .left) (c .before .before .before .before .before .before .before .before .before .before .before .before .before .before .before .before .before .before .before .before .before .before .if2 .left) (sym (c .before .before .before .before .before .before .before .before .before .before .before .before .before .before .before .before .before .before .before .before .before .has-room .ensures) ∙ not-false _ (c .before .before .before .before .before .before .before .before .before .before .before .before .before .before .before .before .before .before .before .before .if3 .left)) x (sym (c .before .before .before .before .before .before .before .before .before .before .before .before .before .before .before .before .before .before .before .read .ensures) ∙ c .before .before .before .before .before .before .before .before .before .before .before .before .before .before .before .before .before .a .given .1) y (sym (c .before .before .before .before .before .before .before .before .before .before .before .before .before .before .before .read2 .ensures) ∙ c .before .before .before .before .before .before .before .before .before .before .before .before .before .b .given .1) (sym (c .before .before .before .before .before .before .before .before .before .same-label .ensures) ∙ not-false _ (c .before .before .before .before .before .before .before .before .if4 .left)) (c .before .before .before .before .before .if5 .left)
+    (rw joined (part-filled (a .out .now) (summaryBytes (joinedOf x y)) (a .at) 1024 (size-summary (joinedOf x y))))
 
 pub join-spec : {M : Type 1} → statement M
 join-spec =
