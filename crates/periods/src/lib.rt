@@ -24,10 +24,10 @@ pub enum StretchRead {
 pub fn read(s: &[u8]) -> StretchRead
     ensures { λ r. ⌜ r ≡ stretchOf (now (s .entry)) ⌝ }
 {
-    match summaries::read(s) {
-        SummaryRead::Valid(v) => StretchRead::Valid(Stretch { held: v }),
-        SummaryRead::Invalid => StretchRead::Invalid,
-    }
+    let SummaryRead::Valid(v) = summaries::read(s) else {
+        return StretchRead::Invalid;
+    };
+    StretchRead::Valid(Stretch { held: v })
 }
 
 // The number of its first interval.

@@ -17,10 +17,10 @@ enum-told : tie.Need-enum-told
 enum-told c = search needs
 
 returns : tie.Need-returns
-returns c = sym (stretch-held (now (c .before .before .before .before .before .args .s)) ∙ ap heldIf (sym (c .before .before .before .read .ensures) ∙ c .before .v .given .1))
+returns c = sym (stretch-held (now (c .before .before .before .before .args .s)) ∙ ap heldIf (sym (c .before .before .read .ensures) ∙ c .enum-told .given .1))
 
 returns-2 : tie.Need-returns-2
-returns-2 c = sym (stretch-held (now (c .before .before .before .before .args .s)) ∙ ap heldIf (sym (c .before .before .read .ensures) ∙ c .enum-told .given .1))
+returns-2 c = sym (stretch-held (now (c .before .before .before .before .before .args .s)) ∙ ap heldIf (sym (c .before .before .before .read .ensures) ∙ c .before .v .given .1))
 
 pub read-spec : {M : Type 1} → statement M
 read-spec = tie.close (tie.spec read-requires enum-known-v enum-told returns returns-2)
