@@ -20,7 +20,7 @@ returns c = rw (c .enum-told .given .1)
 
 returns-2 : tie.Need-returns-2
 unfolding join
-returns-2 c = rw (c .before .before .b .given .1, c .push .ensures)
+returns-2 c = rw (c .before .before .b .given .1) (c .push .ensures)
 
 returns-3 : tie.Need-returns-3
 unfolding join
