@@ -5,14 +5,12 @@ use numbers::limits;
 use numbers::many;
 use numbers::refusal::Fault;
 use numbers::refusal::Refusal;
-use numbers::room;
 ghost use mathlib.Core.Path.{_≡_};
 ghost use Prim.Native.Nat.{_-_, _*_};
 ghost use mathlib.Core.Bool.{cond};
 ghost use lib.ListN.{length};
 ghost use lib.Seq.{sets};
 ghost use Rattle.numbers.specs.Many.{recordAt};
-ghost use Rattle.numbers.specs.Room.{Written};
 ghost use Rattle.intervals.specs.Sequence.{intervalsIn, checked};
 ghost use Rattle.intervals.specs.Interval.{intervalIn, intervalOf, countBytes, delayBytes, intervalBytes, countsMeet, delaysMeet};
 
@@ -150,17 +148,6 @@ pub fn put(part: &mut [u8], v: Interval)
     put_delays(part, v);
 }
 
-// The interval's 48 bytes written from `at` on, if there is room for them; whether there was.
-pub fn write(out: &mut [u8], at: usize, v: Interval) -> bool
-    ensures { λ r. ⌜ Written (now (out .entry)) at (intervalBytes v) r (now (out .exit)) ⌝ }
-{
-    if room::has_room(out.len(), at, 48) {
-        put(&mut out[at..at + 48], v);
-        return true;
-    }
-    false
-}
-
 // The `k`-th record of `s`; a record that `s` does not hold is not valid.
 pub fn read_at(s: &[u8], k: usize) -> IntervalRead
     ensures { λ r. ⌜ r ≡ intervalOf (recordAt (now (s .entry)) 48 k) ⌝ }
@@ -188,14 +175,15 @@ pub fn check(s: &[u8], first: u64) -> Sequence
                 place: k as u64,
             });
         };
-        if v.number as u64 != next {
+        let number = v.number as u64;
+        if number != next {
             return Sequence::Refused(Refusal {
                 fault: Fault::Order,
                 place: k as u64,
             });
         }
         k += 1;
-        next = v.number as u64 + 1;
+        next = number + 1;
     }
     Sequence::Sound
 }

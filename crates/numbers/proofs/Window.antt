@@ -1,7 +1,7 @@
 -- Laws of the window of an output, for whoever lends it on. Each is the test's own meaning.
 -- Assumes nothing.
 use mathlib.Core.Path.{_≡_, ap, sym, _∙_}
-use mathlib.Core.Bool.{Bool, true, false}
+use mathlib.Core.Bool.{true, false}
 use mathlib.Core.List.{List, _++_, append-nil}
 use Prim.Native.Nat.{ℕ, _+_, _-_, _≤_, _<_}
 use native.Mathlib.Omega.{arith}
@@ -12,7 +12,7 @@ use lib.Dec.{leb}
 use borrow.Author.Tests.{leb-true, le-leb, lt-leb}
 use borrow.Rule.Slice.PartMut.{putMid}
 use Rattle.numbers.specs.Bytes.{placed}
-use Rattle.numbers.specs.Room.{hasRoom, Written}
+use Rattle.numbers.specs.Room.{hasRoom}
 
 pub room-within : (len at size : ℕ) → hasRoom len at size ≡ true → at + size ≤ len
 unfolding hasRoom
@@ -47,16 +47,3 @@ part-placed out bs at n e h =
     let k : at + n - at ≡ length bs = omega arith in
     let l : length (take (length bs) (drop at out)) ≡ length bs = simp (length-take, length-drop) (omega arith) in
     rw (k, sets-whole (take (length bs) (drop at out)) bs l, drop-drop)
-
--- what a writer of the window owes, where there is room and where there is none
-
-pub wrote :
-    (out bs after : List ℕ) (at n : ℕ) {room : Bool} → length bs ≡ n → room ≡ hasRoom (length out) at n → room ≡ true → after ≡ placed out at bs → Written out at bs true after
-wrote out bs after at n e r roomy left =
-    let h : hasRoom (length out) at (length bs) ≡ true = ap (hasRoom (length out) at) e ∙ sym r ∙ roomy in
-    record { answered = sym h; left = rw (h, left) }
-
-pub kept : (out bs : List ℕ) (at n : ℕ) {room : Bool} → length bs ≡ n → room ≡ hasRoom (length out) at n → room ≡ false → Written out at bs false out
-kept out bs at n e r none =
-    let h : hasRoom (length out) at (length bs) ≡ false = ap (hasRoom (length out) at) e ∙ sym r ∙ none in
-    record { answered = sym h; left = rw h }

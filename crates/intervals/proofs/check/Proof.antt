@@ -31,8 +31,8 @@ returns : tie.Need-returns Inv-loop μ-loop
 returns c = let s = c .before .before .before .before .before .before .args .s .now in let l = c .before .before .before .before .loop in
     sym (l .inv .1 ∙ check-invalid _ (l .k) (l .next) s (omega arith) (sym (c .before .before .read-at .ensures) ∙ c .enum-told .given .1))
 
-cast-if1 : tie.Need-cast-if1 Inv-loop μ-loop
-cast-if1 c = search needs
+cast-number : tie.Need-cast-number Inv-loop μ-loop
+cast-number c = search needs
 
 returns-2 : tie.Need-returns-2 Inv-loop μ-loop
 returns-2 c = let s = c .before .before .before .before .before .before .before .before .before .args .s .now in let l = c .before .before .before .before .before .before .before .loop in
@@ -41,9 +41,6 @@ returns-2 c = let s = c .before .before .before .before .before .before .before 
 add-k : tie.Need-add-k Inv-loop μ-loop
 add-k c = search needs
 
-cast-next : tie.Need-cast-next Inv-loop μ-loop
-cast-next c = search needs
-
 add-next : tie.Need-add-next Inv-loop μ-loop
 add-next c = search needs
 
@@ -51,8 +48,8 @@ loop-less : tie.Need-loop-less Inv-loop μ-loop
 loop-less c = search needs
 
 loop-again : tie.Need-loop-again Inv-loop μ-loop
-loop-again c = let s = c .before .before .before .before .before .before .before .before .before .before .args .s .now in let l = c .before .before .before .before .before .before .before .before .loop in
-    (search needs, l .inv .1 ∙ check-next _ (l .k) (l .next) s (c .before .before .before .before .v .given .0 .0) (omega arith) (sym (c .before .before .before .before .before .before .read-at .ensures) ∙ c .before .before .before .before .v .given .1) (c .before .if1 .left))
+loop-again c = let s = c .before .before .before .before .before .before .before .before .before .args .s .now in let l = c .before .before .before .before .before .before .before .loop in
+    (search needs, l .inv .1 ∙ check-next _ (l .k) (l .next) s (c .before .before .before .v .given .0 .0) (omega arith) (sym (c .before .before .before .before .before .read-at .ensures) ∙ c .before .before .before .v .given .1) (c .if1 .left))
 
 returns-3 : tie.Need-returns-3 Inv-loop μ-loop
 returns-3 c = let s = c .before .before .before .args .s .now in let l = c .before .loop in
@@ -69,10 +66,9 @@ check-spec =
     enum-known-v
     enum-told
     returns
-    cast-if1
+    cast-number
     returns-2
     add-k
-    cast-next
     add-next
     loop-less
     loop-again

@@ -9,7 +9,7 @@ use Rattle.rule.proofs.can_hold.Tie as tie
 
 returns : tie.Need-returns
 unfolding reachable
-returns c = rw (le-ltb _ _ (c .if1 .taken))
+returns c = let a = c .before .args in rw (le-ltb (a .t .pending) (a .n) (c .if1 .taken))
 
 returns-2 : tie.Need-returns-2
 unfolding reachable
