@@ -1,10 +1,16 @@
 //! `mip_delays`.
+use crate::counts::met_each;
 use crate::inputs::*;
 use crate::library::*;
 use crate::random::Random;
 use second::records::LARGEST_DELAY;
 
 fn list(r: &mut Random, index: u64) -> Vec<u32> {
+    if !large(index) && r.one_in(20) {
+        // too many, whatever they are
+        let delay = r.pick(&[0, LARGEST_DELAY as u32, u32::MAX]);
+        return vec![delay; 1_000_001 + r.index(3)];
+    }
     let count = match index {
         // both sides of FULL, and the largest list
         10 => 1_000_000,
@@ -75,6 +81,9 @@ pub fn case(r: &mut Random, index: u64) -> Result<(), String> {
     let (s_was, list_was) = (s.clone(), list.clone());
     let got = delays(&s, &list, answers.part());
     let expected = second::delays::delays(&s, &list, room).map(|d| d.words().to_vec());
+    if let Ok(four) = &expected {
+        met_each(&["percentile", "range"], &four[2..]);
+    }
     let same = same_word(got, &expected).and_then(|_| answers.as_answered("answers", 0, &expected));
     let kept = s == s_was && list == list_was;
     same.and(if kept {

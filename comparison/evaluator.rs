@@ -1,9 +1,11 @@
 //! `mip_start` and `mip_step`.
+use crate::counts::{met, met_each};
 use crate::inputs::*;
 use crate::library::*;
 use crate::random::Random;
-use second::evaluator::{EVALUATOR_WORDS, step_words};
+use second::evaluator::{EVALUATOR_WORDS, Evaluator, step_words};
 use second::records::*;
+use second::refusals::{Answer, FIELD};
 
 pub fn start_case(r: &mut Random, _: u64) -> Result<(), String> {
     let s = settings(r, 3);
@@ -14,6 +16,13 @@ pub fn start_case(r: &mut Random, _: u64) -> Result<(), String> {
     same_word(got, &expected)
         .and_then(|_| words.as_answered("evaluator", 0, &expected))
         .map_err(|fault| format!("{fault}\nsettings {}\nroom {room}", hex(&s)))
+}
+
+/// Counts which label the step settled on each track.
+fn count_settled(answer: &Answer<Vec<u64>>) {
+    if let Ok(four) = answer {
+        met_each(&["loss", "composite"], &[four[1], four[3]]);
+    }
 }
 
 /// One step on these words, both ways; what the words are afterwards.
@@ -28,6 +37,10 @@ fn step_both(
     let got = step(evaluator.part(), record, settled.part());
     let mut left = words.to_vec();
     let expected = step_words(&mut left, record, room).map(|four| four.to_vec());
+    count_settled(&expected);
+    if expected.as_ref().is_err_and(|r| r.number == FIELD) && Evaluator::of_words(words).is_none() {
+        met("evaluator refused", FIELD as u64);
+    }
     same_word(got, &expected)
         .and_then(|_| settled.as_answered("settled", 0, &expected))
         .and_then(|_| evaluator.holds("evaluator", 0, &left))
@@ -142,6 +155,7 @@ fn feed_case(r: &mut Random) -> Result<(), String> {
         let mut settled = lent_words(r, 4);
         let got = step(&mut words, &i.write(), settled.part());
         let expected = second::evaluator::step(&mut ours, &i.write()).map(|four| four.to_vec());
+        count_settled(&expected);
         same_word(got, &expected)
             .and_then(|_| settled.as_answered("settled", 0, &expected))
             .map_err(shown)?;

@@ -360,9 +360,10 @@ pub fn damage_intervals(r: &mut Random, bytes: &mut Vec<u8>) {
     let Some(k) = record_to_damage(r, bytes, 48) else {
         return;
     };
-    damage_interval(r, &mut bytes[48 * k..48 * k + 48]);
-    if k > 0 && r.one_in(12) {
+    if k > 0 && r.one_in(8) {
         (0..48).for_each(|i| bytes.swap(48 * k - 48 + i, 48 * k + i));
+    } else {
+        damage_interval(r, &mut bytes[48 * k..48 * k + 48]);
     }
 }
 

@@ -17,7 +17,7 @@ pub fn case(r: &mut Random, index: u64) -> Result<(), String> {
         11 => 4_096,
         12 => 4_097,
         13 => 5_000,
-        _ if r.one_in(100) => r.from_to(4_090, 4_099) as usize,
+        _ if r.one_in(10) => r.from_to(4_090, 4_103) as usize,
         _ => some_count(r, 600),
     };
     let mut frames = valid_frames(r, &label, number, count);

@@ -1,4 +1,5 @@
 //! `mip_labels`.
+use crate::counts::met;
 use crate::inputs::*;
 use crate::library::*;
 use crate::random::Random;
@@ -29,6 +30,15 @@ pub fn case(r: &mut Random, index: u64) -> Result<(), String> {
     let mut out = lent_bytes(r, length);
     let got = labels(&s, &records, out.part(), at);
     let expected = second::labels::labels(&s, &records, length, at);
+    if let Ok(bytes) = &expected {
+        for label in 0..3 {
+            for (lane, track) in ["loss", "composite"].into_iter().enumerate() {
+                if bytes.iter().skip(lane).step_by(2).any(|b| *b == label) {
+                    met(track, label as u64);
+                }
+            }
+        }
+    }
     same_word(got, &expected)
         .and_then(|_| out.as_answered("out", at, &expected))
         .map_err(|fault| {

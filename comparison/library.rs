@@ -1,8 +1,8 @@
 //! What calls of the library should answer, and the memory that is lent to them.
+use crate::counts::met;
 pub use crate::exports::*;
 use crate::random::Random;
 use second::refusals::Answer;
-use std::sync::atomic::{AtomicU64, Ordering};
 
 /// What a call should answer as one word.
 pub fn word<T>(answer: &Answer<T>) -> u64 {
@@ -12,11 +12,17 @@ pub fn word<T>(answer: &Answer<T>) -> u64 {
     }
 }
 
-/// How many calls were answered (0) and refused with each number.
-pub static TOLD: [AtomicU64; 10] = [const { AtomicU64::new(0) }; 10];
-
-/// Compares a call's word with the one expected.
+/// Compares the word of a call of the case's operation with the one expected, which is counted.
 pub fn same_word<T>(got: u64, answer: &Answer<T>) -> Result<(), String> {
+    match answer {
+        Ok(_) => met("answered", 0),
+        Err(r) => met("refused", r.number as u64),
+    }
+    same_beside(got, answer)
+}
+
+/// Compares the word of any other call with the one expected.
+pub fn same_beside<T>(got: u64, answer: &Answer<T>) -> Result<(), String> {
     let told = |w: u64| {
         if w == 0 {
             "answered".to_string()
@@ -25,7 +31,6 @@ pub fn same_word<T>(got: u64, answer: &Answer<T>) -> Result<(), String> {
         }
     };
     let expected = word(answer);
-    TOLD[(expected >> 32) as usize].fetch_add(1, Ordering::Relaxed);
     if got == expected {
         Ok(())
     } else {

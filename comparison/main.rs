@@ -1,6 +1,8 @@
 //! The library against the second program, on many inputs: `./compare [SECONDS [SEED [OPERATION CASE]]]` builds and runs it.
 //! The time is split evenly among the operations. A case is made from the seed, the operation's name and the
-//! case's number alone, so a case that fails can be run again by itself.
+//! case's number alone, so a case that fails can be run again by itself. A run in which an answer or a refusal was met too rarely fails
+//! too (`counts`).
+mod counts;
 mod delays;
 mod evaluator;
 mod exports;
@@ -12,7 +14,6 @@ mod random;
 mod summaries;
 
 use random::Random;
-use std::sync::atomic::Ordering;
 use std::time::{Duration, Instant};
 
 /// Tries one case: an error says what differs, and shows the case.
@@ -30,11 +31,11 @@ fn operations() -> Vec<Operation> {
         ("mip_interval", 2_000, interval::case),
         ("mip_labels", 2_000, labels::case),
         ("mip_start", 2_000, evaluator::start_case),
-        ("mip_step", 1_000, evaluator::step_case),
-        ("mip_summary", 1_000, summaries::summary_case),
-        ("mip_join", 1_000, summaries::join_case),
-        ("mip_report", 1_000, summaries::report_case),
-        ("mip_verdicts", 500, summaries::verdicts_case),
+        ("mip_step", 2_000, evaluator::step_case),
+        ("mip_summary", 2_000, summaries::summary_case),
+        ("mip_join", 2_000, summaries::join_case),
+        ("mip_report", 2_000, summaries::report_case),
+        ("mip_verdicts", 8_000, summaries::verdicts_case),
         ("mip_delays", 2_000, delays::case),
     ];
     all.into_iter()
@@ -78,6 +79,7 @@ fn main() {
         return;
     }
     println!("the library against the second program, seed {seed}, {seconds} s");
+    let mut missed = Vec::new();
     for operation in &operations {
         let start = Instant::now();
         let budget = Duration::from_secs_f64(seconds as f64 / operations.len() as f64);
@@ -86,19 +88,18 @@ fn main() {
             run(operation, seed, index);
             index += 1;
         }
-        let told = library::TOLD
-            .each_ref()
-            .map(|count| count.swap(0, Ordering::Relaxed));
-        let refused: Vec<String> = (1..10)
-            .filter(|k| told[*k] > 0)
-            .map(|k| format!("{k}: {}", told[k]))
-            .collect();
+        let (counts, lines) = counts::taken(operation.name);
         println!(
-            "{:12} {index:8} cases the same in {:5.1} s; calls answered {}, refused {}",
+            "{:12} {index:8} cases the same in {:5.1} s; calls {counts}",
             operation.name,
             start.elapsed().as_secs_f64(),
-            told[0],
-            refused.join(", ")
         );
+        missed.extend(lines);
+    }
+    for line in &missed {
+        println!("{line}");
+    }
+    if !missed.is_empty() {
+        std::process::exit(1);
     }
 }

@@ -1,10 +1,12 @@
 //! `mip_summary`, `mip_join`, `mip_report` and `mip_verdicts`. The second program knows a summary as what made it; of the bytes
 //! only the first number, the number after the last, the label settings and the zeros at the end are looked at here.
 #![allow(dead_code)]
+use crate::counts::{met, met_each};
 use crate::inputs::*;
 use crate::library::*;
 use crate::random::Random;
 use second::records::*;
+use second::refusals::{Answer, FIELD, MISMATCH, ORDER};
 use second::summaries::{SUMMARY_BYTES, Summary};
 
 const SIZE: usize = SUMMARY_BYTES;
@@ -28,7 +30,7 @@ fn made(s: &[u8], first: u64, intervals: &[Interval]) -> Result<Both, String> {
         first,
         intervals: intervals.to_vec(),
     };
-    same_word(got, &Ok(())).map_err(|fault| {
+    same_beside(got, &Ok(())).map_err(|fault| {
         format!(
             "{fault}\nsummary of settings {} first {first} intervals {}",
             hex(s),
@@ -133,6 +135,22 @@ pub fn summary_case(r: &mut Random, index: u64) -> Result<(), String> {
         ));
     }
     Ok(())
+}
+
+/// Counts a refusal of summaries by its place in a pair, apart for the first pair and the later ones.
+fn count_place<T>(answer: &Answer<T>) {
+    let Err(r) = answer else { return };
+    let place = if r.place < 3 {
+        r.place
+    } else {
+        3 + r.place % 3
+    };
+    match r.number {
+        FIELD => met("5 at", place),
+        ORDER => met("7 at", place),
+        MISMATCH => met("8 at", place),
+        _ => (),
+    }
 }
 
 /// Joins, where both are valid, of equal settings and adjoining.
@@ -316,6 +334,7 @@ fn refused_joins(r: &mut Random, s: &[u8], whole: &Both, stretches: &[Both]) -> 
     let got = join(&left.bytes, &right.bytes, out.part(), at);
     let lengths = [left.bytes.len(), right.bytes.len()];
     let expected = second::summaries::join(lengths, &[left.model, right.model], length, at);
+    count_place(&expected);
     let shown = |fault: String| {
         format!(
             "{fault}\nleft {}\nright {}\nroom {length} at {at}",
@@ -410,16 +429,26 @@ fn three(r: &mut Random, s: &[u8], count: usize) -> Result<Vec<Both>, String> {
     cut(r, s, 0, &intervals, 3)
 }
 
-/// Breaks one of several summaries, their settings or their order.
+/// The same stretch under other settings, an empty one where the bytes were broken.
+fn remade(both: &Both, s: &[u8]) -> Result<Both, String> {
+    match &both.model {
+        Some(model) => made(s, model.first, &model.intervals),
+        None => made(s, 0, &[]),
+    }
+}
+
+/// Breaks one of several summaries, its settings or those of its pair, or their order.
 fn spoil(r: &mut Random, s: &[u8], all: &mut [Both]) -> Result<(), String> {
     let k = r.index(all.len());
     match r.below(5) {
         0 => all[k] = surely_damaged(r, &all[k]),
         1 => {
-            let model = all[k].model.clone();
-            let first = model.as_ref().map(|m| m.first).unwrap_or(0);
-            let intervals = model.map(|m| m.intervals).unwrap_or_default();
-            all[k] = made(&other_label(r, s), first, &intervals)?;
+            let other = other_label(r, s);
+            let pair = k / 3 * 3;
+            let changed = r.pick(&[k..k + 1, k..k + 1, pair..pair + 3]);
+            for both in &mut all[changed] {
+                *both = remade(both, &other)?;
+            }
         }
         2 => all[k] = made(s, r.edgy(0, INTERVALS), &[])?,
         3 => {
@@ -487,6 +516,7 @@ pub fn report_case(r: &mut Random, index: u64) -> Result<(), String> {
     let got = report(&bytes, figures.part());
     let expected =
         second::reports::report(bytes.len(), &models_of(&all), room).map(|f| f.words().to_vec());
+    count_place(&expected);
     same_word(got, &expected)
         .and_then(|_| figures.as_answered("figures", 0, &expected))
         .map_err(|fault| {
@@ -553,7 +583,7 @@ pub fn verdicts_case(r: &mut Random, index: u64) -> Result<(), String> {
     for _ in 0..faults(r, index) {
         spoil(r, &s, &mut all)?;
     }
-    let models = models_of(&all);
+    let mut models = models_of(&all);
     if !r.one_in(3) {
         let pair = r.index(pairs as usize);
         if let Ok(f) = second::reports::report(3 * SIZE, &models[3 * pair..3 * pair + 3], 15) {
@@ -577,6 +607,8 @@ pub fn verdicts_case(r: &mut Random, index: u64) -> Result<(), String> {
             bytes.len() + 3 * SIZE,
         ]);
         bytes.resize(length, 0);
+        // zeros are no summary
+        models.resize(length / SIZE, None);
     }
     if !large(index) && r.one_in(20) {
         pairs = r.pick(&[
@@ -596,6 +628,13 @@ pub fn verdicts_case(r: &mut Random, index: u64) -> Result<(), String> {
     let got = verdicts(&s, pairs, &bytes, six.part());
     let expected = second::verdicts::verdicts(&s, pairs, bytes.len(), &models, room)
         .map(|v| v.map(|x| x.word()).to_vec());
+    count_place(&expected);
+    if let Ok(six) = &expected {
+        met_each(
+            &["availability", "composite", "loss", "mean", "high", "runs"],
+            six,
+        );
+    }
     same_word(got, &expected)
         .and_then(|_| six.as_answered("verdicts", 0, &expected))
         .map_err(|fault| {
