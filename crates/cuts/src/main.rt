@@ -18,6 +18,7 @@ fn one(case: &[u8]) {
         b'o' => periods_of::objective(case),
         b's' => sets_of::two(case),
         b'p' => sets_of::pairs(case),
+        b'w' => sets_of::places(case),
         b'f' => sets_of::fifteen_of_seventeen(case),
         _ => (),
     }
@@ -30,7 +31,7 @@ fn run(text: &[u8]) {
 }
 
 fn main() {
-    let mut text = [0u8; 4096];
+    let mut text = [0u8; 8192];
     let n = io::read_full(STDIN_FILENO, &mut text);
     run(&text[..n]);
 }

@@ -35,7 +35,7 @@ fn show_rest(r: Period) {
     printing::three(c.available as u64, c.unavailable as u64, c.undecided as u64);
 }
 
-fn show_report(three: &[u8]) {
+pub fn show_report(three: &[u8]) {
     match reports::report(three) {
         Reported::Answered(r) => {
             show_loss(r);
