@@ -19,7 +19,7 @@ use Rattle.labels.specs.Marked.{countsOf, lossMark, compositeMark, bothHigh}
 use Rattle.labels.specs.declared.marks.Both.{Both}
 use Rattle.runs.specs.declared.middles.Middle.{Middle}
 use Rattle.runs.specs.declared.run.Run.{Run}
-use Rattle.runs.specs.Runs.{single, loadOf, gross, headroomOf, glue, same}
+use Rattle.runs.specs.Runs.{single, loadOf, gross, glue, same}
 use Rattle.runs.specs.Middles.{shut, times}
 use Rattle.runs.specs.Valid.{RunValid, RunsFit, EdgesFor}
 use Rattle.runs.proofs.Fitting.{runs-fit}
@@ -62,7 +62,7 @@ glued-high p g v e = e
 -- a segment as a run of a track
 
 toned-single : (m : Bool) (v : Interval) → toned m (single (markedAs true v)) ≡ single (markedAs m v)
-unfolding toned single loadOf gross headroomOf markedAs
+unfolding toned single loadOf gross markedAs
 toned-single true v = refl
 toned-single false v = refl
 
@@ -70,7 +70,7 @@ pub toned-to : (m : Bool) {h : Bool} (v : Interval) {x : Run} → x ≡ single (
 toned-to m v ex eh = rw (ex, eh) (toned-single m v)
 
 toned-glue : (p : ℕ) (m : Bool) (g : Run) (v : Interval) → toned m (glue p g (single (markedAs true v))) ≡ glue p (toned m g) (single (markedAs m v))
-unfolding toned glue single loadOf gross headroomOf markedAs
+unfolding toned glue single loadOf gross markedAs
 toned-glue p true g v = refl
 toned-glue p false g v = rw split-tie
 

@@ -7,11 +7,13 @@ use mathlib.Core.List.{List, _++_, append-assoc}
 use Prim.Native.Nat.{ℕ, _^_, _≤_, _<_}
 use native.Mathlib.Omega.{arith}
 use lib.ListN.{length, length-append}
-use lib.Dec.{leb, eqb}
+use lib.Dec.{eqb}
 use borrow.Author.Tests.{le-leb}
 use Rattle.numbers.specs.Bytes.{numberAt, part, bytesOf, areZero}
+use Rattle.numbers.specs.Limits.{largestDelay}
+use Rattle.numbers.proofs.Bounds.{largest-delay-fits}
 use Rattle.numbers.proofs.Numbers.{number-of-bytes, length-bytes}
-use Rattle.runs.specs.Figures.{idle, none}
+use Rattle.runs.specs.Figures.{turned, idle, none}
 use Rattle.runs.specs.Middles.{unit}
 use Rattle.runs.specs.declared.figures.Load.{Load}
 use Rattle.runs.specs.declared.figures.Figures.{Figures}
@@ -19,13 +21,14 @@ use Rattle.runs.specs.declared.middles.Label.{Label}
 use Rattle.runs.specs.declared.middles.Middle.{Middle}
 use Rattle.runs.specs.declared.run.Edges.{Edges}
 use Rattle.runs.specs.declared.run.Run.{Run}
+use Rattle.runs.proofs.Headroom.{turned-within, turned-twice}
 use Rattle.tracks.specs.declared.Track.{Track}
 use Rattle.layout.specs.Bytes.{loadBytes, figuresBytes, formOf, preOf, innerOf, postOf, shapeBytes, runBytes, labelWord, middleBytes, blankRun, pieceBytes, trackBytes}
-use Rattle.layout.specs.Reading.{loadIn, figuresIn, edgesIn, runIn, labelIn, middleIn, trackIn, runWords, wordsMeet}
+use Rattle.layout.specs.Reading.{loadIn, figuresIn, edgesIn, runIn, labelIn, middleIn, trackIn, loadWords, runWords, middleWords, wordsMeet}
 use Rattle.layout.proofs.Sizes.{size-run, size-middle}
-use Rattle.layout.proofs.Shifting.{load-behind, figures-behind, number-at, zeros-at, run-at, middle-at, run-words-at}
+use Rattle.layout.proofs.Shifting.{load-behind, figures-behind, load-words-behind, zeros-at, run-at, middle-at, run-words-at, middle-words-at}
 
--- values that fit their fields
+-- values that fit their fields; a headroom is that of a least delay
 
 pub record LoadInField (l : Load) : Type 0 where
   pub count-fits : l .count < 2 ^ 32
@@ -33,7 +36,7 @@ pub record LoadInField (l : Load) : Type 0 where
   pub lost-fits : l .lost < 2 ^ 64
   pub sum-fits : l .sum < 2 ^ 64
   pub most-fits : l .most < 2 ^ 32
-  pub headroom-fits : l .headroom < 2 ^ 32
+  pub headroom-fits : l .headroom ≤ largestDelay
 
 pub record FiguresInField (f : Figures) : Type 0 where
   pub load-fits : LoadInField (f .load)
@@ -62,29 +65,58 @@ TrackInField (Track.Many l m r) = RunInField l × MiddleInField m × RunInField 
 
 -- what is written reads as the value
 
-module _ (rest : List ℕ) where
-  load-back : (l : Load) → LoadInField l → loadIn (loadBytes l ++ rest) 0 ≡ l
+module _ (rest : List ℕ) (l : Load) (f : LoadInField l) where
+  sent-word : numberAt 8 (loadBytes l ++ rest) 12 ≡ l .sent
+  unfolding loadBytes numberAt part bytesOf
+  sent-word = number-of-bytes 8 (l .sent) (omega (arith, f .sent-fits))
+
+  lost-word : numberAt 8 (loadBytes l ++ rest) 20 ≡ l .lost
+  unfolding loadBytes numberAt part bytesOf
+  lost-word = number-of-bytes 8 (l .lost) (omega (arith, f .lost-fits))
+
+  least-within : turned (l .sent) (l .lost) (l .headroom) ≤ largestDelay
+  least-within = turned-within (l .sent) (l .lost) (l .headroom) (f .headroom-fits)
+
+  least-word : numberAt 4 (loadBytes l ++ rest) 8 ≡ turned (l .sent) (l .lost) (l .headroom)
+  unfolding loadBytes numberAt part bytesOf
+  least-word = number-of-bytes 4 (turned (l .sent) (l .lost) (l .headroom)) (omega (arith, least-within, largest-delay-fits))
+
+  headroom-word :
+      turned (numberAt 8 (loadBytes l ++ rest) 12) (numberAt 8 (loadBytes l ++ rest) 20) (numberAt 4 (loadBytes l ++ rest) 8) ≡ l .headroom
+  headroom-word = rw (sent-word, lost-word, least-word) (turned-twice (l .sent) (l .lost) (l .headroom) (f .headroom-fits))
+
+  load-back : loadIn (loadBytes l ++ rest) 0 ≡ l
   unfolding loadIn loadBytes numberAt part bytesOf
-  load-back l f =
+  load-back =
       λ i.
       record {
         count = number-of-bytes 4 (l .count) (omega (arith, f .count-fits)) i;
-        sent = number-of-bytes 8 (l .sent) (omega (arith, f .sent-fits)) i;
-        lost = number-of-bytes 8 (l .lost) (omega (arith, f .lost-fits)) i;
+        sent = sent-word i;
+        lost = lost-word i;
         sum = number-of-bytes 8 (l .sum) (omega (arith, f .sum-fits)) i;
         most = number-of-bytes 4 (l .most) (omega (arith, f .most-fits)) i;
-        headroom = number-of-bytes 4 (l .headroom) (omega (arith, f .headroom-fits)) i;
+        headroom = headroom-word i;
       }
 
+  load-words-meet : loadWords (loadBytes l ++ rest) 0 ≡ true
+  unfolding loadWords
+  load-words-meet = rw least-word (le-leb (turned (l .sent) (l .lost) (l .headroom)) largestDelay least-within)
+
+module _ (rest : List ℕ) where
   figures-back : (f : Figures) → FiguresInField f → figuresIn (figuresBytes f ++ rest) 0 ≡ f
   unfolding figuresIn figuresBytes numberAt part bytesOf
   figures-back f h =
       λ i.
       record {
-        load = (load-behind (bytesOf 4 (f .high) ++ bytesOf 4 (f .runs)) (loadBytes (f .load) ++ rest) 0 ∙ load-back (f .load) (h .load-fits)) i;
+        load = (load-behind (bytesOf 4 (f .high) ++ bytesOf 4 (f .runs)) (loadBytes (f .load) ++ rest) 0 ∙ load-back rest (f .load) (h .load-fits)) i;
         high = number-of-bytes 4 (f .high) (omega (arith, h .high-fits)) i;
         runs = number-of-bytes 4 (f .runs) (omega (arith, h .runs-fits)) i;
       }
+
+  figures-words : (f : Figures) → FiguresInField f → loadWords (figuresBytes f ++ rest) 8 ≡ true
+  unfolding figuresBytes bytesOf
+  figures-words f h =
+      load-words-behind (bytesOf 4 (f .high) ++ bytesOf 4 (f .runs)) (loadBytes (f .load) ++ rest) 0 ∙ load-words-meet rest (f .load) (h .load-fits)
 
 -- a form tells the mark and the edges
 
@@ -171,10 +203,14 @@ module _ (rest : List ℕ) (r : Run) (f : RunInField r) where
         edges = edges-word i;
       }
 
+  load-words : loadWords (runBytes r ++ rest) 20 ≡ true
+  unfolding runBytes shapeBytes bytesOf
+  load-words = load-words-behind (shapeBytes r) (loadBytes (r .load) ++ rest) 0 ∙ load-words-meet rest (r .load) (f .load-fits)
+
   run-words-meet : runWords (runBytes r ++ rest) 0 ≡ true
   unfolding runWords
   run-words-meet =
-      rw (form-word, inner-word, post-word, le-leb (formOf (r .mark) (r .edges)) 2 (form-small (r .mark) (r .edges))) (solid-words (r .mark) (r .edges))
+      rw (form-word, inner-word, post-word, load-words, solid-words (r .mark) (r .edges), le-leb (formOf (r .mark) (r .edges)) 2 (form-small (r .mark) (r .edges)))
 
 module _ (rest : List ℕ) (m : Middle) (f : MiddleInField m) where
   label-word : numberAt 4 (middleBytes m ++ rest) 0 ≡ labelWord (m .label)
@@ -197,6 +233,23 @@ module _ (rest : List ℕ) (m : Middle) (f : MiddleInField m) where
   available-word =
       figures-behind (bytesOf 4 (labelWord (m .label)) ++ (bytesOf 4 (m .unavailable) ++ figuresBytes (m .inherited))) (figuresBytes (m .available) ++ rest) 0
       ∙ figures-back rest (m .available) (f .available-fits)
+
+  inherited-words : loadWords (middleBytes m ++ rest) 16 ≡ true
+  unfolding middleBytes bytesOf
+  inherited-words =
+      ap (λ l. loadWords (bytesOf 4 (labelWord (m .label)) ++ (bytesOf 4 (m .unavailable) ++ l)) 16) (append-assoc (figuresBytes (m .inherited)) (figuresBytes (m .available)) rest)
+      ∙ load-words-behind (bytesOf 4 (labelWord (m .label)) ++ bytesOf 4 (m .unavailable)) (figuresBytes (m .inherited) ++ (figuresBytes (m .available) ++ rest)) 8
+      ∙ figures-words (figuresBytes (m .available) ++ rest) (m .inherited) (f .inherited-fits)
+
+  available-words : loadWords (middleBytes m ++ rest) 60 ≡ true
+  unfolding middleBytes bytesOf figuresBytes loadBytes
+  available-words =
+      load-words-behind (bytesOf 4 (labelWord (m .label)) ++ (bytesOf 4 (m .unavailable) ++ figuresBytes (m .inherited))) (figuresBytes (m .available) ++ rest) 8
+      ∙ figures-words rest (m .available) (f .available-fits)
+
+  middle-words-meet : middleWords (middleBytes m ++ rest) 0 ≡ true
+  unfolding middleWords
+  middle-words-meet = rw (label-word, inherited-words, available-words, le-leb (labelWord (m .label)) 2 (label-small (m .label)))
 
   middle-back : middleIn (middleBytes m ++ rest) 0 ≡ m
   unfolding middleIn
@@ -254,19 +307,17 @@ module _ (rest : List ℕ) (kind : ℕ) (l : Run) (m : Middle) (r : Run) where
   last-words : RunInField r → runWords (pieceBytes kind l m r ++ rest) 160 ≡ true
   last-words f = rw at-last (run-words-at (bytesOf 8 kind ++ (runBytes l ++ middleBytes m)) _ 160 before-last ∙ run-words-meet rest r f)
 
-  label-words : MiddleInField m → leb (numberAt 4 (pieceBytes kind l m r ++ rest) 64) 2 ≡ true
-  label-words f =
-      rw at-middle
-      (ap (λ k. leb k 2) (number-at (bytesOf 8 kind ++ runBytes l) _ 64 before-middle 4 ∙ label-word (runBytes r ++ rest) m f) ∙ le-leb (labelWord (m .label)) 2 (label-small (m .label)))
+  middle-words : MiddleInField m → middleWords (pieceBytes kind l m r ++ rest) 64 ≡ true
+  middle-words f = rw at-middle (middle-words-at (bytesOf 8 kind ++ runBytes l) _ 64 before-middle ∙ middle-words-meet (runBytes r ++ rest) m f)
 
 -- what a track does not have is 0
 
 nothing-zero : (rest : List ℕ) → areZero 208 (pieceBytes 0 blankRun unit blankRun ++ rest) 8 ≡ true
-unfolding pieceBytes runBytes shapeBytes middleBytes figuresBytes loadBytes bytesOf areZero unit none idle
+unfolding pieceBytes runBytes shapeBytes middleBytes figuresBytes loadBytes bytesOf areZero unit none idle turned
 nothing-zero rest = refl
 
 blank-zero : (rest : List ℕ) → areZero 152 (middleBytes unit ++ (runBytes blankRun ++ rest)) 0 ≡ true
-unfolding runBytes shapeBytes middleBytes figuresBytes loadBytes bytesOf areZero unit none idle
+unfolding runBytes shapeBytes middleBytes figuresBytes loadBytes bytesOf areZero unit none idle turned
 blank-zero rest = refl
 
 one-zero : (rest : List ℕ) (r : Run) → areZero 152 (pieceBytes 1 r unit blankRun ++ rest) 64 ≡ true
@@ -286,4 +337,4 @@ unfolding wordsMeet trackBytes TrackInField
 track-words Track.Nothing rest f = rw (kind-word rest 0 blankRun unit blankRun (omega arith)) (nothing-zero rest)
 track-words (Track.One r) rest f = rw (kind-word rest 1 r unit blankRun (omega arith), first-words rest 1 r unit blankRun f, one-zero rest r)
 track-words (Track.Many l m r) rest f =
-    rw (kind-word rest 2 l m r (omega arith), first-words rest 2 l m r (f .0), label-words rest 2 l m r (f .1), last-words rest 2 l m r (f .2))
+    rw (kind-word rest 2 l m r (omega arith), first-words rest 2 l m r (f .0), middle-words rest 2 l m r (f .1), last-words rest 2 l m r (f .2))

@@ -10,7 +10,7 @@ use lib.ListN.{length, getD}
 use lib.Seq.{getD-append-add}
 use lib.Dec.{eqb}
 use Rattle.numbers.specs.Bytes.{number, numberAt, part, areZero}
-use Rattle.layout.specs.Reading.{loadIn, figuresIn, runIn, middleIn, trackBy, trackIn, runWords, wordsBy, wordsMeet}
+use Rattle.layout.specs.Reading.{loadIn, figuresIn, runIn, middleIn, trackBy, trackIn, loadWords, runWords, middleWords, wordsBy, wordsMeet}
 
 module _ (pre s : List ℕ) where
   getD-behind : (i : ℕ) → getD (pre ++ s) (length pre + i) 0 ≡ getD s i 0
@@ -82,16 +82,29 @@ module _ (pre s : List ℕ) where
   unfolding trackIn
   track-behind i = rw (number-behind 8 i) (by-kind (eqb (numberAt 8 s i) 0) (eqb (numberAt 8 s i) 1) i)
 
+  pub load-words-behind : (i : ℕ) → loadWords (pre ++ s) (length pre + i) ≡ loadWords s i
+  unfolding loadWords
+  load-words-behind i = rw (field 4 i 8)
+
+  load-words-field : (i k : ℕ) → loadWords (pre ++ s) (length pre + i + k) ≡ loadWords s (i + k)
+  load-words-field i k = ap (loadWords (pre ++ s)) (add-assoc (length pre) i k) ∙ load-words-behind (i + k)
+
   run-words-behind : (i k : ℕ) → runWords (pre ++ s) (length pre + i + k) ≡ runWords s (i + k)
   unfolding runWords
   run-words-behind i k =
       let e : length pre + i + k ≡ length pre + (i + k) = omega arith in
-      rw (e, number-behind 4 (i + k), field 4 (i + k) 12, field 4 (i + k) 16)
+      rw (e, number-behind 4 (i + k), field 4 (i + k) 12, field 4 (i + k) 16, load-words-field (i + k) 20)
+
+  middle-words-behind : (i k : ℕ) → middleWords (pre ++ s) (length pre + i + k) ≡ middleWords s (i + k)
+  unfolding middleWords
+  middle-words-behind i k =
+      let e : length pre + i + k ≡ length pre + (i + k) = omega arith in
+      rw (e, number-behind 4 (i + k), load-words-field (i + k) 16, load-words-field (i + k) 60)
 
   words-by-kind : (nothing one two : Bool) (i : ℕ) → wordsBy nothing one two (pre ++ s) (length pre + i) ≡ wordsBy nothing one two s i
   words-by-kind true one two i = zero-field 208 i 8
   words-by-kind false true two i = rw (run-words-behind i 8, zero-field 152 i 64)
-  words-by-kind false false true i = rw (run-words-behind i 8, field 4 i 64, run-words-behind i 160)
+  words-by-kind false false true i = rw (run-words-behind i 8, middle-words-behind i 64, run-words-behind i 160)
   words-by-kind false false false i = refl
 
   pub words-behind : (i : ℕ) → wordsMeet (pre ++ s) (length pre + i) ≡ wordsMeet s i
@@ -104,9 +117,6 @@ module _ (pre s : List ℕ) where
     right-behind : length pre + 0 ≡ n
     right-behind = omega arith
 
-    pub number-at : (w : ℕ) → numberAt w (pre ++ s) n ≡ numberAt w s 0
-    number-at w = ap (numberAt w (pre ++ s)) (sym right-behind) ∙ number-behind w 0
-
     pub zeros-at : (w : ℕ) → areZero w (pre ++ s) n ≡ areZero w s 0
     zeros-at w = ap (areZero w (pre ++ s)) (sym right-behind) ∙ zeros-behind w 0
 
@@ -116,11 +126,14 @@ module _ (pre s : List ℕ) where
     pub middle-at : middleIn (pre ++ s) n ≡ middleIn s 0
     middle-at = ap (middleIn (pre ++ s)) (sym right-behind) ∙ middle-behind 0
 
+    right-behind-twice : length pre + 0 + 0 ≡ n
+    right-behind-twice = omega arith
+
     pub run-words-at : runWords (pre ++ s) n ≡ runWords s 0
-    run-words-at = ap (runWords (pre ++ s)) (sym (right-behind-twice)) ∙ run-words-behind 0 0
-      where
-        right-behind-twice : length pre + 0 + 0 ≡ n
-        right-behind-twice = omega arith
+    run-words-at = ap (runWords (pre ++ s)) (sym right-behind-twice) ∙ run-words-behind 0 0
+
+    pub middle-words-at : middleWords (pre ++ s) n ≡ middleWords s 0
+    middle-words-at = ap (middleWords (pre ++ s)) (sym right-behind-twice) ∙ middle-words-behind 0 0
 
     pub track-at : trackIn (pre ++ s) n ≡ trackIn s 0
     track-at = ap (trackIn (pre ++ s)) (sym right-behind) ∙ track-behind 0

@@ -3,7 +3,7 @@ use Prim.Native.Nat.{ℕ}
 use mathlib.Core.Bool.{Bool, false, cond}
 use mathlib.Core.List.{List, _++_}
 use Rattle.numbers.specs.Bytes.{bytesOf}
-use Rattle.runs.specs.Figures.{idle}
+use Rattle.runs.specs.Figures.{turned, idle}
 use Rattle.runs.specs.Middles.{unit}
 use Rattle.runs.specs.declared.figures.Load.{Load}
 use Rattle.runs.specs.declared.figures.Figures.{Figures}
@@ -13,11 +13,12 @@ use Rattle.runs.specs.declared.run.Edges.{Edges}
 use Rattle.runs.specs.declared.run.Run.{Run}
 use Rattle.tracks.specs.declared.Track.{Track}
 
--- a load, 36 bytes
+-- a load, 36 bytes, with the least delay for the headroom
 unfoldable pub loadBytes : Load → List ℕ
 loadBytes l =
     bytesOf 4 (l .count)
-    ++ (bytesOf 4 (l .most) ++ (bytesOf 4 (l .headroom) ++ (bytesOf 8 (l .sent) ++ (bytesOf 8 (l .lost) ++ bytesOf 8 (l .sum)))))
+    ++ (bytesOf 4 (l .most)
+    ++ (bytesOf 4 (turned (l .sent) (l .lost) (l .headroom)) ++ (bytesOf 8 (l .sent) ++ (bytesOf 8 (l .lost) ++ bytesOf 8 (l .sum)))))
 
 -- figures, 44 bytes
 unfoldable pub figuresBytes : Figures → List ℕ

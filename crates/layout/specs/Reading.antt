@@ -4,6 +4,8 @@ use mathlib.Core.Bool.{Bool, true, false, _&&_, _||_, not}
 use mathlib.Core.List.{List}
 use lib.Dec.{leb, eqb}
 use Rattle.numbers.specs.Bytes.{numberAt, areZero}
+use Rattle.numbers.specs.Limits.{largestDelay}
+use Rattle.runs.specs.Figures.{turned}
 use Rattle.runs.specs.declared.figures.Load.{Load}
 use Rattle.runs.specs.declared.figures.Figures.{Figures}
 use Rattle.runs.specs.declared.middles.Label.{Label}
@@ -12,6 +14,7 @@ use Rattle.runs.specs.declared.run.Edges.{Edges}
 use Rattle.runs.specs.declared.run.Run.{Run}
 use Rattle.tracks.specs.declared.Track.{Track}
 
+-- the bytes hold the least delay
 unfoldable pub loadIn : List ℕ → ℕ → Load
 loadIn s at =
     record {
@@ -20,7 +23,7 @@ loadIn s at =
       lost = numberAt 8 s (at + 20);
       sum = numberAt 8 s (at + 28);
       most = numberAt 4 s (at + 4);
-      headroom = numberAt 4 s (at + 8);
+      headroom = turned (numberAt 8 s (at + 12)) (numberAt 8 s (at + 20)) (numberAt 4 s (at + 8));
     }
 
 unfoldable pub figuresIn : List ℕ → ℕ → Figures
@@ -70,15 +73,25 @@ trackBy false false s at = Track.Many (runIn s (at + 8)) (middleIn s (at + 64)) 
 unfoldable pub trackIn : List ℕ → ℕ → Track
 trackIn s at = trackBy (eqb (numberAt 8 s at) 0) (eqb (numberAt 8 s at) 1) s at
 
--- the form is 0, 1 or 2, and a solid run has nothing but its length at its edges
+-- a least delay is at most the largest delay
+unfoldable pub loadWords : List ℕ → ℕ → Bool
+loadWords s at = leb (numberAt 4 s (at + 8)) largestDelay
+
+-- the form is 0, 1 or 2, a solid run has nothing but its length at its edges, and its load's least delay is in order
 unfoldable pub runWords : List ℕ → ℕ → Bool
 runWords s at =
-    leb (numberAt 4 s at) 2 && (not (eqb (numberAt 4 s at) 2) || (eqb (numberAt 4 s (at + 12)) 0 && eqb (numberAt 4 s (at + 16)) 0))
+    leb (numberAt 4 s at) 2
+    && (not (eqb (numberAt 4 s at) 2) || (eqb (numberAt 4 s (at + 12)) 0 && eqb (numberAt 4 s (at + 16)) 0))
+    && loadWords s (at + 20)
+
+-- the label is 0, 1 or 2, and so are the least delays of both loads
+unfoldable pub middleWords : List ℕ → ℕ → Bool
+middleWords s at = leb (numberAt 4 s at) 2 && loadWords s (at + 16) && loadWords s (at + 60)
 
 abbrev pub wordsBy : Bool → Bool → Bool → List ℕ → ℕ → Bool
 wordsBy true one two s at = areZero 208 s (at + 8)
 wordsBy false true two s at = runWords s (at + 8) && areZero 152 s (at + 64)
-wordsBy false false true s at = runWords s (at + 8) && leb (numberAt 4 s (at + 64)) 2 && runWords s (at + 160)
+wordsBy false false true s at = runWords s (at + 8) && middleWords s (at + 64) && runWords s (at + 160)
 wordsBy false false false s at = false
 
 -- the kind is 0, 1 or 2, what the track does not have is 0, and the words of what it has are in order

@@ -1,5 +1,7 @@
 // A track read out of bytes: its values, and whether its words are ones that a writer makes.
 use numbers::known;
+use numbers::limits::LARGEST_DELAY;
+use runs::figures;
 use runs::figures::Figures;
 use runs::figures::Load;
 use runs::middles::Label;
@@ -10,20 +12,23 @@ use tracks::Track;
 ghost use mathlib.Core.Path.{_≡_};
 ghost use Prim.Native.Nat.{_+_, _≤_};
 ghost use lib.ListN.{length};
-ghost use Rattle.layout.specs.Reading.{loadIn, figuresIn, edgesIn, runIn, labelIn, middleIn, trackIn, runWords, wordsMeet};
+ghost use Rattle.layout.specs.Reading.{loadIn, figuresIn, edgesIn, runIn, labelIn, middleIn, trackIn, loadWords, runWords, middleWords, wordsMeet};
 
-// The load from `at` on.
+// The load from `at` on. The bytes hold the least delay.
 fn load_in(s: &[u8], at: usize) -> Load
     requires { ⌜ at + 36 ≤ length (now s) ⌝ }
     ensures { λ r. ⌜ r ≡ loadIn (now (s .entry)) at ⌝ }
 {
+    let sent = known::get_u64(s, at + 12);
+    let lost = known::get_u64(s, at + 20);
+    let least = known::get_u32(s, at + 8);
     Load {
         count: known::get_u32(s, at),
-        sent: known::get_u64(s, at + 12),
-        lost: known::get_u64(s, at + 20),
+        sent,
+        lost,
         sum: known::get_u64(s, at + 28),
         most: known::get_u32(s, at + 4),
-        headroom: known::get_u32(s, at + 8),
+        headroom: figures::turned(sent, lost, least),
     }
 }
 
@@ -109,6 +114,14 @@ pub fn track_in(s: &[u8], at: usize) -> Track
     }
 }
 
+// Whether the least delay of the load from `at` on is at most the largest delay.
+fn load_words(s: &[u8], at: usize) -> bool
+    requires { ⌜ at + 36 ≤ length (now s) ⌝ }
+    ensures { λ r. ⌜ r ≡ loadWords (now (s .entry)) at ⌝ }
+{
+    known::get_u32(s, at + 8) <= LARGEST_DELAY
+}
+
 // Whether the words of the run from `at` on are ones that a writer makes.
 fn run_words(s: &[u8], at: usize) -> bool
     requires { ⌜ at + 56 ≤ length (now s) ⌝ }
@@ -117,6 +130,15 @@ fn run_words(s: &[u8], at: usize) -> bool
     let form = known::get_u32(s, at);
     (form <= 2)
         & ((form != 2) | ((known::get_u32(s, at + 12) == 0) & (known::get_u32(s, at + 16) == 0)))
+        & load_words(s, at + 20)
+}
+
+// Whether the words of the middle from `at` on are ones that a writer makes.
+fn middle_words(s: &[u8], at: usize) -> bool
+    requires { ⌜ at + 96 ≤ length (now s) ⌝ }
+    ensures { λ r. ⌜ r ≡ middleWords (now (s .entry)) at ⌝ }
+{
+    (known::get_u32(s, at) <= 2) & load_words(s, at + 16) & load_words(s, at + 60)
 }
 
 // Whether the words of the track from `at` on are ones that a writer makes.
@@ -128,7 +150,7 @@ pub fn words_meet(s: &[u8], at: usize) -> bool
     match kind {
         0 => known::are_zero(s, at + 8, 208),
         1 => run_words(s, at + 8) & known::are_zero(s, at + 64, 152),
-        2 => run_words(s, at + 8) & (known::get_u32(s, at + 64) <= 2) & run_words(s, at + 160),
+        2 => run_words(s, at + 8) & middle_words(s, at + 64) & run_words(s, at + 160),
         _ => false,
     }
 }

@@ -15,7 +15,7 @@ ghost use lib.ListN.{length};
 ghost use lib.Seq.{sets};
 ghost use Rattle.layout.specs.Bytes.{loadBytes, figuresBytes, formOf, preOf, innerOf, postOf, shapeBytes, runBytes, labelWord, middleBytes, blankRun, pieceBytes, trackBytes};
 
-// A load put from `at` on: 36 bytes.
+// A load put from `at` on: 36 bytes, with the least delay for the headroom.
 fn put_load(out: &mut [u8], at: usize, l: Load)
     requires { ⌜ at + 36 ≤ length (now out) ⌝ }
     ensures { λ r. ⌜ now (out .exit) ≡ sets (now (out .entry)) at (loadBytes l) ⌝ }
@@ -25,9 +25,10 @@ fn put_load(out: &mut [u8], at: usize, l: Load)
     let d = c + 4;
     let e = d + 8;
     let f = e + 8;
+    let least = figures::turned(l.sent, l.lost, l.headroom);
     known::put_u32(out, at, l.count);
     known::put_u32(out, b, l.most);
-    known::put_u32(out, c, l.headroom);
+    known::put_u32(out, c, least);
     known::put_u64(out, d, l.sent);
     known::put_u64(out, e, l.lost);
     known::put_u64(out, f, l.sum);

@@ -6,7 +6,7 @@ use native.Mathlib.Omega.{arith}
 use native.Mathlib.Nat.{mul-le-mul-right}
 use native.Mathlib.Decide.{decLt}
 use lib.Dec.{leb, eqb}
-use borrow.Author.Tests.{leb-true, eqb-false, eq-eqb, ne-eqb}
+use borrow.Author.Tests.{leb-true, eqb-false}
 use Rattle.numbers.specs.Limits.{largestDelay}
 use Rattle.tallies.specs.declared.Marked.{Marked}
 use Rattle.runs.specs.declared.figures.Load.{Load}
@@ -17,12 +17,13 @@ use Rattle.runs.specs.declared.run.Run.{Run}
 use Rattle.runs.specs.declared.middles.Label.{Label}
 use Rattle.runs.specs.declared.middles.Label.the-variants.{Inherits, Says}
 use Rattle.runs.specs.declared.middles.Middle.{Middle}
-use Rattle.runs.specs.Figures.{idle, both, none, plus}
-use Rattle.runs.specs.Runs.{long, one, tie, closed, edge, headroomOf, gross, loadOf, single, glue, figuresOf, quietRun}
+use Rattle.runs.specs.Figures.{turned, idle, both, none, plus}
+use Rattle.runs.specs.Runs.{long, one, tie, closed, edge, gross, loadOf, single, glue, figuresOf, quietRun}
 use Rattle.runs.specs.Middles.{unit, placed, verdict, shut, over, timesBy, times, quietMiddle}
 use Rattle.runs.specs.Sound.{Sound}
 use Rattle.runs.specs.Valid.{LoadValid, FiguresValid, EdgesValid, EdgesFor, RunValid, LabelValid, MiddleFits, MiddleValid}
 use Rattle.runs.proofs.Adding.{plus-none}
+use Rattle.runs.proofs.Headroom.{turned-heard, turned-silent}
 use Rattle.runs.proofs.Tying.{long-zero, split-tie}
 
 -- two sums, each between bounds times its number, together
@@ -74,22 +75,14 @@ both-valid a b v w =
           (omega arith) (omega arith) (v .to) (w .to));
     }
 
-pub headroom-heard : (x : Marked) → x .lost < x .sent → headroomOf x ≡ largestDelay - x .least
-unfolding headroomOf
-headroom-heard x h = rw (ne-eqb (x .sent) (x .lost) (λ e. omega arith))
-
-pub headroom-silent : (x : Marked) → x .sent ≡ x .lost → headroomOf x ≡ 0
-unfolding headroomOf
-headroom-silent x e = rw (eq-eqb (x .sent) (x .lost) e)
-
 gross-valid : (x : Marked) → Sound x → LoadValid (gross x)
 unfolding gross
 gross-valid x s = by (decLt (x .lost) (x .sent))
   where
     by : Dec (x .lost < x .sent) → LoadValid (gross x)
     by (yes q) =
-        let e : headroomOf x ≡ largestDelay - x .least = headroom-heard x q in
-        let f : largestDelay - headroomOf x ≡ x .least = omega (arith, s .ordered, s .within) in
+        let e : turned (x .sent) (x .lost) (x .least) ≡ largestDelay - x .least = turned-heard (x .sent) (x .lost) (x .least) q in
+        let f : largestDelay - turned (x .sent) (x .lost) (x .least) ≡ x .least = omega (arith, s .ordered, s .within) in
         record {
           few = omega (arith, s .few);
           lost-of-sent = s .lost-of-sent;
@@ -102,7 +95,7 @@ gross-valid x s = by (decLt (x .lost) (x .sent))
         }
     by (no q) =
         let e : x .sent ≡ x .lost = omega (arith, s .lost-of-sent) in
-        let h : headroomOf x ≡ 0 = headroom-silent x e in
+        let h : turned (x .sent) (x .lost) (x .least) ≡ 0 = omega (arith, turned-silent (x .sent) (x .lost) (x .least) e, s .ordered, s .silent e) in
         let d : x .sent - x .lost ≡ 0 = omega arith in
         record {
           few = omega (arith, s .few);

@@ -1,5 +1,6 @@
 -- The laws of this crate that others cite.
 pub mod Adding
+pub mod Headroom
 pub mod Tying
 pub mod Placing
 pub mod Keeping

@@ -1,15 +1,14 @@
 -- Runs: stretches of equal marks, with what their intervals add up to and where maintenance splits those that count.
 use mathlib.Core.Bool.{Bool, true, false, cond, not, _&&_, Bool·beq}
-use Prim.Native.Nat.{ℕ, _+_, _-_}
+use Prim.Native.Nat.{ℕ, _+_}
 use lib.Dec.{leb, eqb}
-use Rattle.numbers.specs.Limits.{largestDelay}
 use Rattle.tallies.specs.declared.Marked.{Marked}
 use Rattle.runs.specs.declared.figures.Load.{Load}
 use Rattle.runs.specs.declared.figures.Figures.{Figures}
 use Rattle.runs.specs.declared.run.Edges.{Edges}
 use Rattle.runs.specs.declared.run.Edges.the-variants.{Solid, Split}
 use Rattle.runs.specs.declared.run.Run.{Run}
-use Rattle.runs.specs.Figures.{idle, both}
+use Rattle.runs.specs.Figures.{turned, idle, both}
 
 -- k intervals in a row make a run of length p or more; none does where p is 0
 unfoldable pub long : ℕ → ℕ → Bool
@@ -37,13 +36,17 @@ abbrev pub edge : Bool → Edges
 edge true = Solid 1
 edge false = Split 0 0 0
 
--- the headroom of an interval's least delay; 0 where nothing was delivered
-unfoldable pub headroomOf : Marked → ℕ
-headroomOf x = cond (eqb (x .sent) (x .lost)) 0 (largestDelay - x .least)
-
 -- the load of one interval that counts
 unfoldable pub gross : Marked → Load
-gross x = record { count = 1; sent = x .sent; lost = x .lost; sum = x .sum; most = x .most; headroom = headroomOf x }
+gross x =
+    record {
+      count = 1;
+      sent = x .sent;
+      lost = x .lost;
+      sum = x .sum;
+      most = x .most;
+      headroom = turned (x .sent) (x .lost) (x .least);
+    }
 
 -- the load of one interval; in maintenance it has none
 unfoldable pub loadOf : Marked → Load

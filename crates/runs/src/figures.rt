@@ -3,7 +3,7 @@ use numbers::limits::LARGEST_DELAY;
 use tallies::Totals;
 ghost use mathlib.Core.Path.{_≡_};
 ghost use Prim.Native.Nat.{_-_, max};
-ghost use Rattle.runs.specs.Figures.{idle, both, none, plus, reported};
+ghost use Rattle.runs.specs.Figures.{turned, idle, both, none, plus, reported};
 ghost use Rattle.runs.specs.Valid.{LoadsFit, FiguresFit};
 
 // What intervals add up to. The least delay is kept as headroom, the largest delay allowed less it.
@@ -34,6 +34,18 @@ pub fn monus(a: u32, b: u32) -> u32
     ensures { λ r. ⌜ r ≡ a - b ⌝ }
 {
     if b < a { a - b } else { 0 }
+}
+
+// The headroom of a least delay, and the least delay of a headroom: the largest delay less it. Where nothing was delivered both are 0, and
+// it stays.
+pub fn turned(sent: u64, lost: u64, x: u32) -> u32
+    ensures { λ r. ⌜ r ≡ turned sent lost x ⌝ }
+{
+    if sent == lost {
+        x
+    } else {
+        monus(LARGEST_DELAY, x)
+    }
 }
 
 pub fn idle() -> Load
@@ -91,11 +103,6 @@ pub fn reported(f: Figures) -> Totals
     ensures { λ r. ⌜ r ≡ reported f ⌝ }
 {
     let l = f.load;
-    let least = if l.sent == l.lost {
-        0
-    } else {
-        monus(LARGEST_DELAY, l.headroom)
-    };
     Totals {
         count: l.count,
         high: f.high,
@@ -103,7 +110,7 @@ pub fn reported(f: Figures) -> Totals
         sent: l.sent,
         lost: l.lost,
         sum: l.sum,
-        least,
+        least: turned(l.sent, l.lost, l.headroom),
         most: l.most,
     }
 }

@@ -2,12 +2,11 @@
 use crate::figures;
 use crate::figures::Figures;
 use crate::figures::Load;
-use numbers::limits::LARGEST_DELAY;
 use tallies::Marked;
 ghost use mathlib.Core.Path.{_≡_};
 ghost use mathlib.Core.Bool.{cond};
 ghost use Prim.Native.Nat.{_+_, _<_, _≤_};
-ghost use Rattle.runs.specs.Runs.{long, one, tie, closed, headroomOf, loadOf, single, glue, same, figuresOf, quietRun};
+ghost use Rattle.runs.specs.Runs.{long, one, tie, closed, loadOf, single, glue, same, figuresOf, quietRun};
 ghost use Rattle.runs.specs.Valid.{spanOf, RunsFit};
 
 // Where maintenance splits the counted intervals of a run of high marks. Solid: nowhere, and all of them count. Split: how many touch
@@ -71,17 +70,6 @@ fn closed(p: u32, e: Edges) -> u32
     }
 }
 
-// The headroom of an interval's least delay; 0 where nothing was delivered.
-fn headroom_of(x: Marked) -> u32
-    ensures { λ r. ⌜ r ≡ headroomOf x ⌝ }
-{
-    if x.sent == x.lost {
-        0
-    } else {
-        figures::monus(LARGEST_DELAY, x.least)
-    }
-}
-
 // The load of one interval; in maintenance it has none.
 fn load_of(x: Marked) -> Load
     ensures { λ r. ⌜ r ≡ loadOf x ⌝ }
@@ -89,13 +77,15 @@ fn load_of(x: Marked) -> Load
     if x.maintenance {
         return figures::idle();
     }
+    let sent = x.sent as u64;
+    let lost = x.lost as u64;
     Load {
         count: 1,
-        sent: x.sent as u64,
-        lost: x.lost as u64,
+        sent,
+        lost,
         sum: x.sum,
         most: x.most,
-        headroom: headroom_of(x),
+        headroom: figures::turned(sent, lost, x.least),
     }
 }
 

@@ -18,8 +18,8 @@ use Rattle.labels.specs.Marked.{lossMark}
 use Rattle.tallies.specs.Report.{counted, resting, report}
 use Rattle.tallies.specs.Seen.{markedAs}
 use Rattle.tallies.specs.Tally.{is, counts, those, highs, number, firstAll, begun, runsOf, total, delivering, smallest, greatest, totalled, tally}
-use Rattle.runs.specs.Figures.{idle, both, none, plus, reported}
-use Rattle.runs.specs.Runs.{long, tie, closed, headroomOf, gross, loadOf, single, glue, same, figuresOf}
+use Rattle.runs.specs.Figures.{turned, idle, both, none, plus, reported}
+use Rattle.runs.specs.Runs.{long, tie, closed, gross, loadOf, single, glue, same, figuresOf}
 use Rattle.runs.specs.Middles.{unit, placed, verdict, shut, over, timesBy, times}
 use Rattle.tracks.specs.Tracks.{push, graft, join, pushAll, summary, start, decided, finish, sorted, tallied, whole}
 use Rattle.summaries.specs.Made.{madeOf}
@@ -58,7 +58,7 @@ pub record Table : Type 0 where
   pub LHHHHHL : Says (of (by 9 2) [] (L ∷ H ∷ H ∷ H ∷ H ∷ H ∷ L ∷ []) []) 0 7 0 0 5 1
 
 pub table : Table
-unfolding highLoss highComposite above weighed nothingWeighed indicator million settles gain turn run told labelling report counted resting markedAs is counts those highs number firstAll begun runsOf total delivering smallest greatest totalled tally measured countIf pairsIf isLost isLate isPair apart isJumpy delaysOf sumOf leastOf mostOf joinedOf madeOf whole summary pushAll push graft join start decided finish sorted tallied single glue same figuresOf loadOf gross headroomOf long tie closed unit placed verdict shut over timesBy times idle both none plus reported largestDelay
+unfolding highLoss highComposite above weighed nothingWeighed indicator million settles gain turn run told labelling report counted resting markedAs is counts those highs number firstAll begun runsOf total delivering smallest greatest totalled tally measured countIf pairsIf isLost isLate isPair apart isJumpy delaysOf sumOf leastOf mostOf joinedOf madeOf whole summary pushAll push graft join start decided finish sorted tallied single glue same figuresOf loadOf gross turned long tie closed unit placed verdict shut over timesBy times idle both none plus reported largestDelay
 table =
     record {
       HHHLLL = labelled (by 3 2) _ _ (lit≤ tt) refl refl;

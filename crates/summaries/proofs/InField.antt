@@ -26,7 +26,7 @@ load-in-field l v room =
       lost-fits = omega (arith, v .few, v .lost-of-sent);
       sum-fits = omega (arith, sum-bound l v);
       most-fits = omega (arith, v .within);
-      headroom-fits = omega (arith, v .roomy);
+      headroom-fits = v .roomy;
     }
 
 figures-in-field : (p : ℕ) (f : Figures) → FiguresValid p f → f .load .count ≤ intervals → FiguresInField f

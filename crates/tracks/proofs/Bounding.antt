@@ -1,10 +1,9 @@
 -- The tally of a track that meets the rules, made or not, counts just what the track counts, and keeps to an interval's rules.
-use mathlib.Core.Path.{_≡_, refl, sym, ap, subst}
+use mathlib.Core.Path.{_≡_, refl, sym, ap, subst, _∙_}
 use mathlib.Core.Bool.{Bool, true, false, cond}
 use Prim.Native.Nat.{ℕ, _+_, _<_}
 use native.Mathlib.Omega.{arith}
 use native.Mathlib.Decide.{decLt}
-use borrow.Author.Tests.{eq-eqb, ne-eqb}
 use Rattle.runs.specs.declared.figures.Figures.{Figures}
 use Rattle.runs.specs.declared.run.Run.{Run}
 use Rattle.runs.specs.declared.middles.Label.{Label}
@@ -14,6 +13,7 @@ use Rattle.runs.specs.Figures.{idle, none, reported}
 use Rattle.runs.specs.Runs.{figuresOf}
 use Rattle.runs.specs.Middles.{placed, shut, over, timesBy, times}
 use Rattle.runs.specs.Valid.{FiguresValid, RunValid, MiddleFits}
+use Rattle.runs.proofs.Headroom.{turned-heard, turned-silent}
 use Rattle.runs.proofs.Keeping.{none-valid, figures-valid, shut-valid, times-fits}
 use Rattle.tracks.specs.declared.Track.{Track}
 use Rattle.tracks.specs.declared.Track.the-variants.{Nothing, One, Many}
@@ -110,7 +110,7 @@ reported-bounded p f v = by (decLt (f .load .lost) (f .load .sent))
   where
     by : Dec (f .load .lost < f .load .sent) → Bounded p (reported f)
     by (yes q) =
-        rw (ne-eqb (f .load .sent) (f .load .lost) (λ e. omega arith))
+        rw (turned-heard (f .load .sent) (f .load .lost) (f .load .headroom) q)
         (record {
           high = v .high;
           runs = v .runs;
@@ -124,7 +124,8 @@ reported-bounded p f v = by (decLt (f .load .lost) (f .load .sent))
           to = v .load .to;
         })
     by (no q) =
-        rw (eq-eqb (f .load .sent) (f .load .lost) (omega (arith, v .load .lost-of-sent)))
+        let e : f .load .sent ≡ f .load .lost = omega (arith, v .load .lost-of-sent) in
+        rw (turned-silent (f .load .sent) (f .load .lost) (f .load .headroom) e ∙ v .load .silent e .1)
         (record {
           high = v .high;
           runs = v .runs;

@@ -7,18 +7,18 @@ use mathlib.Core.List.{List, [], _∷_, _++_, map, append-assoc, append-nil}
 use Prim.Native.Nat.{ℕ, suc, _+_, _-_, _≤_, _<_, max}
 use native.Mathlib.Omega.{arith}
 use native.Mathlib.Nat.{add-zero, zero-add}
-use lib.Dec.{eqb, ltb}
+use lib.Dec.{ltb}
 use lib.ListN.{length, length-map}
-use borrow.Author.Tests.{ltb-true, ltb-false, eq-eqb, ne-eqb}
+use borrow.Author.Tests.{ltb-true, ltb-false}
 use Rattle.rule.specs.Labels.{Label, settled, undecided}
 use Rattle.numbers.specs.Limits.{largestDelay}
 use Rattle.tallies.specs.declared.Marked.{Marked}
-use Rattle.runs.specs.Figures.{idle, both, reported}
+use Rattle.runs.specs.Figures.{turned, idle, both, reported}
 use Rattle.runs.specs.Runs.{gross, maintained}
 use Rattle.runs.specs.Sound.{Sound, AllSound}
 use Rattle.tallies.specs.Tally.{counts, those, highs, total, delivering, smallest, greatest, totalled, tally, Labels, marks}
 use Rattle.tracks.specs.Tracks.{tallied, whole, summary, join, quiet}
-use Rattle.runs.proofs.Keeping.{headroom-heard, headroom-silent}
+use Rattle.runs.proofs.Headroom.{turned-heard, turned-silent}
 use Rattle.tracks.proofs.Joining.{summary-append, quiet-summary}
 use Rattle.tracks.proofs.Counting.{NoneOf, number-append, number-none, runs-after, runs-before}
 use Rattle.tracks.proofs.Spanning.{loads, figures, those-append, highs-append}
@@ -68,16 +68,16 @@ heard-more : (x : Marked) (xs : List Marked) → Sound x → Heard xs → (b : B
 unfolding loads both gross delivering smallest
 heard-more x xs s (none-did a b c) true e =
     let h : x .lost < x .sent = ltb-true (x .lost) (x .sent) e in
-    some-did x [] (rw (e, a)) (omega arith) (omega (arith, headroom-heard x h)) (omega (arith, s .ordered, s .within))
+    some-did x [] (rw (e, a)) (omega arith) (omega (arith, turned-heard (x .sent) (x .lost) (x .least) h)) (omega (arith, s .ordered, s .within))
 heard-more x xs s (none-did a b c) false e =
     let h : x .sent ≡ x .lost = omega (arith, s .lost-of-sent, ltb-false (x .lost) (x .sent) e) in
-    none-did (rw (e, a)) (omega arith) (omega (arith, headroom-silent x h))
+    none-did (rw (e, a)) (omega arith) (omega (arith, turned-silent (x .sent) (x .lost) (x .least) h, s .ordered, s .silent h))
 heard-more x xs s (some-did y ys a b c d) true e =
     let h : x .lost < x .sent = ltb-true (x .lost) (x .sent) e in
-    some-did x (y ∷ ys) (rw (e, a)) (omega arith) (omega (arith, headroom-heard x h, s .ordered, s .within)) (omega (arith, s .ordered, s .within))
+    some-did x (y ∷ ys) (rw (e, a)) (omega arith) (omega (arith, turned-heard (x .sent) (x .lost) (x .least) h, s .ordered, s .within)) (omega (arith, s .ordered, s .within))
 heard-more x xs s (some-did y ys a b c d) false e =
     let h : x .sent ≡ x .lost = omega (arith, s .lost-of-sent, ltb-false (x .lost) (x .sent) e) in
-    some-did y ys (rw (e, a)) (omega arith) (omega (arith, headroom-silent x h)) d
+    some-did y ys (rw (e, a)) (omega arith) (omega (arith, turned-silent (x .sent) (x .lost) (x .least) h, s .ordered, s .silent h)) d
 
 heard : (xs : List Marked) → AllSound xs → Heard xs
 unfolding AllSound loads idle delivering
@@ -85,13 +85,13 @@ heard [] s = none-did refl refl refl
 heard (x ∷ xs) s = heard-more x xs (s .0) (heard xs (s .1)) (ltb (x .lost) (x .sent)) refl
 
 least-read : (xs : List Marked) → AllSound xs
-    → cond (eqb (loads xs .sent) (loads xs .lost)) 0 (largestDelay - loads xs .headroom) ≡ smallest (map (λ x. x .least) (delivering xs))
+    → turned (loads xs .sent) (loads xs .lost) (loads xs .headroom) ≡ smallest (map (λ x. x .least) (delivering xs))
 unfolding smallest
 least-read xs s = by (heard xs s)
   where
-    by : Heard xs → cond (eqb (loads xs .sent) (loads xs .lost)) 0 (largestDelay - loads xs .headroom) ≡ smallest (map (λ x. x .least) (delivering xs))
-    by (none-did a b c) = rw (a, eq-eqb (loads xs .sent) (loads xs .lost) b)
-    by (some-did y ys a b c d) = rw (a, ne-eqb (loads xs .sent) (loads xs .lost) (λ e. omega arith)) (omega arith)
+    by : Heard xs → turned (loads xs .sent) (loads xs .lost) (loads xs .headroom) ≡ smallest (map (λ x. x .least) (delivering xs))
+    by (none-did a b c) = rw (a, turned-silent (loads xs .sent) (loads xs .lost) (loads xs .headroom) b) c
+    by (some-did y ys a b c d) = rw (a, turned-heard (loads xs .sent) (loads xs .lost) (loads xs .headroom) b) (omega arith)
 
 cond-list : {A : Type 0} (P : List A → Type 0) (b : Bool) (x : A) (xs : List A) → P (x ∷ xs) → P xs → P (cond b (x ∷ xs) xs)
 cond-list P true x xs p q = p

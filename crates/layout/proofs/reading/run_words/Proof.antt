@@ -21,9 +21,15 @@ add-get-u32-2 c = search needs
 get-u32-requires-3 : tie.Need-get-u32-requires-3
 get-u32-requires-3 c κs = search needs
 
+add-load-words : tie.Need-add-load-words
+add-load-words c = search needs
+
+load-words-requires : tie.Need-load-words-requires
+load-words-requires c κs = search needs
+
 returns : tie.Need-returns
 unfolding runWords
-returns c = rw (c .before .before .get-u32 .ensures, c .before .get-u322 .ensures, c .get-u323 .ensures) refl
+returns c = rw (c .before .before .before .get-u32 .ensures, c .before .before .get-u322 .ensures, c .before .get-u323 .ensures, c .load-words .ensures) refl
 
 pub run-words-spec : {M : Type 1} → statement M
 run-words-spec =
@@ -34,4 +40,6 @@ run-words-spec =
     get-u32-requires-2
     add-get-u32-2
     get-u32-requires-3
+    add-load-words
+    load-words-requires
     returns)

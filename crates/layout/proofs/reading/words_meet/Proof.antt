@@ -35,11 +35,11 @@ add-run-words-2 c = search needs
 run-words-requires-2 : tie.Need-run-words-requires-2
 run-words-requires-2 c κs = search needs
 
-add-get-u32 : tie.Need-add-get-u32
-add-get-u32 c = search needs
+add-middle-words : tie.Need-add-middle-words
+add-middle-words c = search needs
 
-get-u32-requires : tie.Need-get-u32-requires
-get-u32-requires c κs = search needs
+middle-words-requires : tie.Need-middle-words-requires
+middle-words-requires c κs = search needs
 
 add-run-words-3 : tie.Need-add-run-words-3
 add-run-words-3 c = search needs
@@ -57,7 +57,7 @@ returns-2 c = rw (sym (c .before .before .before .get-u64 .ensures) ∙ c .befor
 
 returns-3 : tie.Need-returns-3
 unfolding wordsMeet
-returns-3 c = rw (sym (c .before .before .before .before .get-u64 .ensures) ∙ c .before .before .before .match .keys3, c .run-words3 .ensures, c .before .get-u32 .ensures, c .before .before .run-words2 .ensures) refl
+returns-3 c = rw (sym (c .before .before .before .before .get-u64 .ensures) ∙ c .before .before .before .match .keys3, c .run-words3 .ensures, c .before .middle-words .ensures, c .before .before .run-words2 .ensures) refl
 
 returns-4 : tie.Need-returns-4
 unfolding wordsMeet
@@ -76,8 +76,8 @@ words-meet-spec =
     are-zero-requires-2
     add-run-words-2
     run-words-requires-2
-    add-get-u32
-    get-u32-requires
+    add-middle-words
+    middle-words-requires
     add-run-words-3
     run-words-requires-3
     returns

@@ -10,7 +10,7 @@ returns c = rw (c .before .if1 .taken, c .idle .ensures)
 
 returns-2 : tie.Need-returns-2
 unfolding loadOf gross
-returns-2 c = rw (c .headroom-of .ensures, c .before .before .before .if1 .left)
+returns-2 c = rw (c .turned .ensures, c .before .before .before .if1 .left)
 
 pub load-of-spec : {M : Type 1} → statement M
 load-of-spec = tie.close (tie.spec (λ c κs. search needs) returns (λ c. search needs) (λ c. search needs) (λ c κs. search needs) returns-2)
