@@ -125,11 +125,6 @@ fn figures(before: &Summary, period: &Summary, after: &Summary) -> [u64; 15] {
     let [loss, composite] = [0, 1].map(|k| counts(given[k], &period.tracks[k]));
     let f = available(given[0], p, &period.tracks[0]);
     let length = (period.after - period.first) as u64;
-    let least = if f.load.sent == f.load.lost {
-        0
-    } else {
-        LARGEST - f.load.headroom
-    };
     [
         length,
         length - loss.iter().sum::<u64>(),
@@ -141,7 +136,7 @@ fn figures(before: &Summary, period: &Summary, after: &Summary) -> [u64; 15] {
         f.load.sent,
         f.load.lost,
         f.load.sum,
-        least as u64,
+        f.load.least() as u64,
         f.load.most as u64,
         composite[0],
         composite[1],

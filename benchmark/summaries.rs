@@ -47,6 +47,16 @@ impl Load {
             }
     }
 
+    /// 0 where nothing was delivered.
+    #[inline(always)]
+    pub fn least(&self) -> u32 {
+        if self.sent == self.lost {
+            0
+        } else {
+            LARGEST - self.headroom
+        }
+    }
+
     fn is_zero(&self) -> bool {
         (self.count | self.most | self.headroom == 0) & (self.sent | self.lost | self.sum == 0)
     }
@@ -328,13 +338,20 @@ fn are_zero(s: &[u8]) -> bool {
     s.iter().fold(0, |all, b| all | b) == 0
 }
 
+/// The bytes hold the least delay. One above the largest delay wraps to a headroom above it, and one where nothing was delivered is taken
+/// for the headroom: neither meets the rules.
 fn load_in(s: &[u8; 36]) -> Load {
+    let (least, sent, lost) = (u32_at(s, 8), u64_at(s, 12), u64_at(s, 20));
     Load {
         count: u32_at(s, 0),
         most: u32_at(s, 4),
-        headroom: u32_at(s, 8),
-        sent: u64_at(s, 12),
-        lost: u64_at(s, 20),
+        headroom: if sent == lost {
+            least
+        } else {
+            LARGEST.wrapping_sub(least)
+        },
+        sent,
+        lost,
         sum: u64_at(s, 28),
     }
 }
@@ -415,7 +432,7 @@ pub fn read(s: &[u8; SIZE]) -> Option<Summary> {
 }
 
 fn put_load(s: &mut [u8], l: &Load) {
-    for (k, x) in [l.count, l.most, l.headroom].into_iter().enumerate() {
+    for (k, x) in [l.count, l.most, l.least()].into_iter().enumerate() {
         inputs::put(s, 4 * k, x);
     }
     for (k, x) in [l.sent, l.lost, l.sum].into_iter().enumerate() {
