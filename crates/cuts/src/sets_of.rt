@@ -25,6 +25,7 @@ pub fn two(case: &[u8]) {
     both(&s, lines::word(case, 1), lines::word(case, 2));
 }
 
+// The verdicts of two pairs, the whole of each one's letters the period.
 fn both(s: &[u8], first: &[u8], second: &[u8]) {
     let mut six = [0u8; 6144];
     periods_of::put_three(s, first, 0, first.len(), &mut six, 0);
@@ -38,7 +39,7 @@ fn digit(word: &[u8], k: usize) -> usize {
     num::wrapping_sub_u8(bytes::get_u8(word, k), b'0') as usize
 }
 
-// n of the settings given, or of others.
+// n of the settings given, or of others where the mark says so.
 fn n_by(mark: u8) -> u8 {
     if mark == b'm' { 4 } else { 3 }
 }
@@ -57,12 +58,14 @@ fn put_said(records: &[u8], word: &[u8], out: &mut [u8], k: usize) {
     }
 }
 
+// The six summaries that the words of a case say.
 fn put_six(records: &[u8], case: &[u8], out: &mut [u8]) {
     for k in 0..6 {
         put_said(records, lines::word(case, k + 1), out, k);
     }
 }
 
+// What the report of the first pair and the verdicts of both pairs give.
 fn show_six(six: &[u8]) {
     let s = circuit::settings(3, 2);
     periods_of::show_report(many::part(six, 3072, 0));
@@ -71,7 +74,7 @@ fn show_six(six: &[u8]) {
     printing::end();
 }
 
-// Six summaries: the report of the first pair, and the verdicts of both.
+// Six summaries, each a word: with one or more of them at fault, the refusal and its place.
 pub fn places(case: &[u8]) {
     let mut records = [0u8; RECORDS];
     circuit::put_records(&mut records, b"LLLLLLLLL");

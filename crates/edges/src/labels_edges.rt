@@ -1,11 +1,15 @@
-// Document 01's lines on labels. Printed are the loss labels and the composite labels of the stretch, and
-// then what each step of the running evaluator settles: how many labels and which, on the loss track.
+// Document 01's lines on labels. Printed are the loss labels and the composite labels of the stretch; then
+// what each step of the running evaluator settles, by value: how many labels and which, on the loss track;
+// and then the same over an evaluator that is lent to each step, with each record once more, which is refused
+// and leaves it as it was.
 use cases::circuit;
 use cases::lines;
 use cases::printing;
+use evaluator::Answer;
 use evaluator::Evaluator;
 use evaluator::Started;
 use evaluator::Stepped;
+use evaluator::Told;
 use labels::stretch;
 use labels::stretch::Labelled;
 use numbers::bytes;
@@ -42,15 +46,20 @@ fn show_labels(s: &[u8], records: &[u8], count: usize)
     }
 }
 
+// What a step settled on the loss track.
+fn show_settled(answer: Answer) {
+    let loss = answer.loss;
+    printing::number(loss.count);
+    printing::text(b"x");
+    printing::plain(loss.label);
+}
+
 // The step with the `k`-th record, and the evaluator that it leaves.
 fn show_step(e: Evaluator, records: &[u8], k: usize) -> Evaluator {
     let stepped = evaluator::step(e, many::part(records, 48, k));
     match stepped {
         Stepped::Fed(next, answer) => {
-            let loss = answer.loss;
-            printing::number(loss.count);
-            printing::text(b"x");
-            printing::plain(loss.label);
+            show_settled(answer);
             next
         }
         Stepped::Refused(r) => {
@@ -67,12 +76,39 @@ fn show_steps(start: Evaluator, records: &[u8], count: usize) {
     }
 }
 
+// What a step over a lent evaluator told.
+fn show_told(told: Told) {
+    match told {
+        Told::Settled(answer) => show_settled(answer),
+        Told::Refused(r) => printing::refused(r),
+    }
+}
+
+// Two steps with a record over an evaluator that is lent to each, and the evaluator that they leave. It does nothing else, since what lends a struct is proved by hand.
+fn lend(mut e: Evaluator, r: &[u8]) -> Evaluator {
+    let told = evaluator::step_in(&mut e, r);
+    show_told(told);
+    let again = evaluator::step_in(&mut e, r);
+    show_told(again);
+    e
+}
+
+// The steps with each record, twice.
+fn lend_all(start: Evaluator, records: &[u8], count: usize) {
+    let mut e = start;
+    for k in 0..count {
+        e = lend(e, many::part(records, 48, k));
+    }
+}
+
 fn show_evaluator(s: &[u8], records: &[u8], count: usize) {
     printing::bar();
     let started = evaluator::start(s);
     match started {
         Started::Ready(e) => {
             show_steps(e, records, count);
+            printing::bar();
+            lend_all(e, records, count);
         }
         Started::Refused(r) => printing::refused(r),
     }
