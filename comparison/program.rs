@@ -71,7 +71,7 @@ fn printed(
     run.current_dir(directory)
         .stdout(std::process::Stdio::piped());
     if is_interrupted {
-        run.env("LD_PRELOAD", &ours.interrupted);
+        run.env("PRELOAD", &ours.interrupted);
     }
     let child = run.spawn()?;
     if let Entry::Pipe(bytes, sizes) = intervals {

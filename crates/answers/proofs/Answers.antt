@@ -48,7 +48,7 @@ use Rattle.making.specs.Making as making
 use Rattle.making.specs.declared.Made.{Made}
 use Rattle.joining.specs.Joining as joining
 use Rattle.joining.specs.declared.Joined.{Joined}
-use Rattle.periods.specs.Stretches.{firstOf, afterOf, labelOf, periodOf}
+use Rattle.periods.specs.Stretches.{heldIf, firstOf, afterOf, labelOf, periodOf, stretch-held, first-held, after-held, label-held}
 use Rattle.periods.specs.declared.Stretch.{Stretch}
 use Rattle.periods.specs.declared.StretchRead.{StretchRead}
 use Rattle.reports.specs.Three as three
@@ -59,7 +59,7 @@ use Rattle.verdicts.specs.declared.Verdicts.{Verdicts}
 use Rattle.sets.specs.Sets as sets
 use Rattle.sets.specs.declared.Judged.{Judged}
 use Rattle.answers.specs.Lines.{Line, line, Told, told, answered, toldOf, firstLine}
-use Rattle.answers.specs.Operations.{badSettings, nanoseconds, wanted, ragged, badInterval, notNext, intervalLines, frameLines, delayLines, threeLines, pairLines, badSummary, otherSettings, notAdjoining, intervalRefusals, intervalTold, labelsRefusals, labelsTold, startRefusals, startTold, stepRefusals, stepTold, delaysRefusals, delaysTold, summaryRefusals, summaryTold, joinRefusals, joinTold, reportRefusals, reportTold, verdictsRefusals, verdictsTold}
+use Rattle.answers.specs.Operations.{badSettings, nanoseconds, wanted, ragged, badInterval, notNext, intervalLines, frameLines, delayLines, badStretch, unlike, apart, threeLines, pairLines, intervalRefusals, intervalTold, labelsRefusals, labelsTold, startRefusals, startTold, stepRefusals, stepTold, delaysRefusals, delaysTold, summaryRefusals, summaryTold, joinRefusals, joinTold, reportRefusals, reportTold, verdictsRefusals, verdictsTold}
 
 -- records in a sequence: the first fault is the first line that holds
 
@@ -322,23 +322,25 @@ join-unless false f k j xs h = refl
 join-by-reads :
     (x y : SummaryRead) →
     joinTold (joining.answerOf (joining.judgedReads x y))
-    ≡ firstLine (line (badSummary x) 5 0 ∷ line (badSummary y) 5 1 ∷ line (otherSettings x y) 8 1 ∷ line (notAdjoining x y) 7 1 ∷ [])
+    ≡ firstLine (line (badStretch (heldIf x)) 5 0 ∷ line (badStretch (heldIf y)) 5 1 ∷ line (unlike (heldIf x) (heldIf y)) 8 1 ∷ line (apart (heldIf x) (heldIf y)) 7 1 ∷ [])
 unfolding firstLine
 join-by-reads SummaryRead.Invalid y = refl
 join-by-reads (SummaryRead.Valid a) SummaryRead.Invalid = refl
 join-by-reads (SummaryRead.Valid a) (SummaryRead.Valid b) =
-    join-unless (sameLabel (a .label) (b .label)) Fault.Mismatch 1 _ (line (not (eqb (a .after) (b .first))) 7 1 ∷ [])
-    (join-unless (eqb (a .after) (b .first)) Fault.Order 1 (joining.good (joining.joinedOf a b)) [] refl)
+    rw (label-held (record { held = a }), label-held (record { held = b }), after-held (record { held = a }), first-held (record { held = b }))
+    (join-unless (sameLabel (a .label) (b .label)) Fault.Mismatch 1 _ (line (not (eqb (a .after) (b .first))) 7 1 ∷ [])
+    (join-unless (eqb (a .after) (b .first)) Fault.Order 1 (joining.good (joining.joinedOf a b)) [] refl))
 
 pub join-answers-number :
     (left right out : List ℕ) (at : ℕ) {answer : Joined} {after : List ℕ} → joining.Outcome left right out at answer after →
     joinTold answer ≡ firstLine (joinRefusals left right (length out) at)
 unfolding joinRefusals joining.judged
 join-answers-number left right out at o =
-    ap joinTold (o .answered)
+    rw (stretch-held left, stretch-held right)
+    (ap joinTold (o .answered)
     ∙ join-unless (eqb (length left) 1024) Fault.Length 0 _ _
     (join-unless (eqb (length right) 1024) Fault.Length 0 _ _
-    (join-unless (hasRoom (length out) at 1024) Fault.Room 0 _ _ (join-by-reads (summaryOf left) (summaryOf right))))
+    (join-unless (hasRoom (length out) at 1024) Fault.Room 0 _ _ (join-by-reads (summaryOf left) (summaryOf right)))))
 
 -- report and verdicts
 

@@ -21,11 +21,9 @@ use Rattle.evaluator.specs.Evaluators.{evaluatorMeets}
 use Rattle.evaluator.specs.declared.Evaluator.{Evaluator}
 use Rattle.evaluator.specs.declared.Started.{Started}
 use Rattle.evaluator.specs.declared.Stepped.{Stepped}
-use Rattle.summaries.specs.Stored.{summaryOf}
-use Rattle.summaries.specs.declared.SummaryRead.{SummaryRead}
 use Rattle.making.specs.declared.Made.{Made}
 use Rattle.joining.specs.declared.Joined.{Joined}
-use Rattle.periods.specs.Stretches.{firstOf, afterOf, labelOf}
+use Rattle.periods.specs.Stretches.{stretchOf, firstOf, afterOf, labelOf}
 use Rattle.periods.specs.declared.StretchRead.{StretchRead}
 use Rattle.reports.specs.Three.{suits, summaryAt}
 use Rattle.reports.specs.declared.Reported.{Reported}
@@ -138,20 +136,6 @@ unfoldable pub pairLines : ℕ → Wanted → List ℕ → ℕ → List Line
 pairLines zero w s k = []
 pairLines (suc n) w s k = threeLines w (3 * k) (summaryAt s (3 * k)) (summaryAt s (3 * k + 1)) (summaryAt s (3 * k + 2)) ++ pairLines n w s (suc k)
 
-abbrev pub badSummary : SummaryRead → Bool
-badSummary (SummaryRead.Valid a) = false
-badSummary SummaryRead.Invalid = true
-
-abbrev pub otherSettings : SummaryRead → SummaryRead → Bool
-otherSettings SummaryRead.Invalid y = false
-otherSettings (SummaryRead.Valid a) SummaryRead.Invalid = false
-otherSettings (SummaryRead.Valid a) (SummaryRead.Valid b) = not (sameLabel (a .label) (b .label))
-
-abbrev pub notAdjoining : SummaryRead → SummaryRead → Bool
-notAdjoining SummaryRead.Invalid y = false
-notAdjoining (SummaryRead.Valid a) SummaryRead.Invalid = false
-notAdjoining (SummaryRead.Valid a) (SummaryRead.Valid b) = not (eqb (a .after) (b .first))
-
 -- The operations
 
 -- interval(settings, frames, number, maintenance, out of `len` bytes, at)
@@ -226,10 +210,10 @@ joinRefusals left right len at =
     line (not (eqb (length left) 1024)) 2 0
     ∷ line (not (eqb (length right) 1024)) 2 0
     ∷ line (not (hasRoom len at 1024)) 3 0
-    ∷ line (badSummary (summaryOf left)) 5 0
-    ∷ line (badSummary (summaryOf right)) 5 1
-    ∷ line (otherSettings (summaryOf left) (summaryOf right)) 8 1
-    ∷ line (notAdjoining (summaryOf left) (summaryOf right)) 7 1
+    ∷ line (badStretch (stretchOf left)) 5 0
+    ∷ line (badStretch (stretchOf right)) 5 1
+    ∷ line (unlike (stretchOf left) (stretchOf right)) 8 1
+    ∷ line (apart (stretchOf left) (stretchOf right)) 7 1
     ∷ []
 
 abbrev pub joinTold : Joined → Told
