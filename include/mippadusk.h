@@ -1,4 +1,4 @@
-/* Mippadusk: the C interface. Link libmippadusk.a, which `rt staticlib mippadusk` builds.
+/* Mippadusk: the C interface. Link target/staticlib/libmippadusk.a, which ./archive builds.
  *
  * A slice is a pointer and a length, next to each other: of bytes in bytes, of words in words. A pointer is never null and is
  * aligned for its type, also where the length is 0. A slice that is written overlaps no other slice of the call.
