@@ -41,7 +41,7 @@ returns-4 c =
     let after-if1 = after-held-in .before in
     let start = after-if1 .before .before in
     let valid = held-valid (start .args .e) (after-h .h .given .0 .0) (sym (after-held-in .held-in .ensures) ∙ after-h .h .given .1) in
-    rw (eq-eqb _ _ (after-if1 .if1 .left), valid .0, ← after-read .read .ensures, after-v .v .given .1, ne-eqb _ _ (c .if2 .taken))
+    rw (eq-eqb _ _ (after-if1 .if1 .left), valid .0, ← after-read .read .ensures, after-v .v .given .1, ne-eqb (after-v .v .given .0 .0 .number) (start .args .e .fed) (c .if2 .taken))
 
 feed-requires : tie.Need-feed-requires
 feed-requires c κs =
