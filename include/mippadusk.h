@@ -155,12 +155,15 @@ uint64_t mip_report(const uint8_t *summaries, size_t summaries_len,
  * pairs      the number of pairs, 1 to 64
  * summaries  three summaries for each pair, as for mip_report, of the label settings of `settings`; pair behind pair
  * verdicts   room for 6 words or more; words behind the sixth stay as they are. 0 is not met, 1 met, 2 not yet: for
- *              0  availability
- *              1  composite
- *              2  loss
- *              3  mean delay
- *              4  high loss intervals
- *              5  runs
+ *              0  availability: available * 1,000,000 >= least availability * (available + unavailable)
+ *              1  composite: acceptable * 1,000,000 >= least composite * (acceptable + unacceptable)
+ *              2  loss: lost * 1,000,000 <= most loss * sent
+ *              3  mean delay: sum of the delays <= most mean delay * (sent - lost)
+ *              4  high loss intervals: as many as the most or fewer
+ *              5  runs: as many as the most or fewer
+ *            A pair's report is asked each of these twice: as it would be with all undecided intervals of the period available (for
+ *            the composite, acceptable), and with all of them unavailable (unacceptable). A pair's verdict is met where both say so,
+ *            not met where neither does, not yet where one of the two does. So none is not yet where nothing is undecided.
  *            Each is not met where it is not met for a pair, else not yet where it is not yet for a pair, else met.
  *
  * Refusals, in this order: MIP_SETTINGS; MIP_PAIRS where `pairs` is 0 or above 64; MIP_LENGTH where `summaries` is not pairs * 3,072

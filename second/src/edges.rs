@@ -9,7 +9,7 @@ use crate::records::*;
 use crate::refusals::*;
 use crate::reports::{report, report_of, Report};
 use crate::summaries::{join, summary, Summary};
-use crate::verdicts::{judge, verdicts, Verdict};
+use crate::verdicts::{judge, met, verdicts, Verdict};
 
 fn base() -> Settings {
     Settings {
@@ -59,19 +59,28 @@ fn good(s: &Settings) -> bool {
     read.is_some()
 }
 
-/// Letters H and L, small ones in maintenance, numbered from `first`.
+/// An interval for each letter, small ones in maintenance, numbered from `first`. A delay of 5,000,000 is late, one of 1,000 is not.
+/// High loss are H, F and B. With weights 1 the composite goes along with the loss; with weights 2 its high ones are H, B and C.
 fn stretch(first: u64, text: &str) -> Vec<Interval> {
     let one = |(k, letter): (usize, char)| {
-        let lost = if letter.to_ascii_uppercase() == 'H' { 10 } else { 0 };
-        let delay = if lost == 0 { 1_000 } else { 0 };
+        let (sent, lost, delay) = match letter.to_ascii_uppercase() {
+            'H' => (10, 10, 0),
+            'L' => (10, 0, 1_000),
+            'F' => (10, 6, 1_000),
+            'B' => (10, 6, 5_000_000),
+            'C' => (10, 0, 5_000_000),
+            'E' => (10, 5, 1_000),
+            'Z' => (0, 0, 0),
+            _ => panic!("no such letter"),
+        };
         Interval {
             number: first + k as u64,
-            sent: 10,
+            sent,
             lost,
-            late: 0,
+            late: if delay > 4_000_000 { sent - lost } else { 0 },
             pairs: 0,
             jumpy: 0,
-            sum: delay * (10 - lost),
+            sum: delay * (sent - lost),
             least: delay,
             most: delay,
             maintenance: letter.is_ascii_lowercase(),
@@ -260,11 +269,11 @@ fn fifteen_of_seventeen_line() {
     let r = Report { length: 17, available: 15, unavailable: 2, acceptable: 15, unacceptable: 2, ..Report::default() };
     s.least_availability = 882_352;
     s.least_composite = 882_352;
-    assert_eq!(judge(&s, &r)[..2], [Verdict::Met, Verdict::Met]);
+    assert_eq!(met(&s, &r)[..2], [true, true]);
     s.least_availability = 882_353;
-    assert_eq!(judge(&s, &r)[..2], [Verdict::NotMet, Verdict::Met]);
+    assert_eq!(met(&s, &r)[..2], [false, true]);
     s.least_composite = 882_353;
-    assert_eq!(judge(&s, &r)[..2], [Verdict::NotMet, Verdict::NotMet]);
+    assert_eq!(met(&s, &r)[..2], [false, false]);
 }
 
 // The program.
@@ -301,7 +310,38 @@ runs met
     let empty = evaluate(Some(bytes(&s)), Some(vec![]));
     assert!(empty.starts_with("length 0 maintenance 0\navailable 0 unavailable 0 undecided 0\nhigh 0 runs 0\n"));
     assert!(empty.ends_with("availability met\ncomposite met\nloss met\nmean met\nhigh met\nruns met\n"));
-    assert!(evaluate(Some(bytes(&s)), Some(written(&stretch(0, "HH")))).contains("\nloss not yet\n"));
+    // Both undecided. The mean is met either way: nothing was delivered.
+    let text = evaluate(Some(bytes(&s)), Some(written(&stretch(0, "HH"))));
+    let expected = "length 2 maintenance 0
+available 0 unavailable 0 undecided 2
+high 0 runs 0
+sent 0 lost 0
+delay 0 0 0
+composite 0 0 2
+availability not yet
+composite not yet
+loss not yet
+mean met
+high not yet
+runs not yet
+";
+    assert_eq!(text, expected);
+    // The last two undecided, and no verdict that waits for them: availability is 2 of 5 at best.
+    let text = evaluate(Some(bytes(&s)), Some(written(&stretch(0, "HHHLL"))));
+    let expected = "length 5 maintenance 0
+available 0 unavailable 3 undecided 2
+high 0 runs 0
+sent 0 lost 0
+delay 0 0 0
+composite 0 3 2
+availability not met
+composite not met
+loss met
+mean met
+high met
+runs met
+";
+    assert_eq!(text, expected);
 }
 
 // Labels in full for small n.
@@ -773,26 +813,478 @@ fn verdict_edges() {
     s.most_loss = 1_000;
     s.most_high = 2;
     s.most_runs = 1;
-    assert_eq!(judge(&s, &r), [Verdict::Met; 6]);
+    assert_eq!(met(&s, &r), [true; 6]);
     s.most_loss = 999;
     s.most_mean = 999;
     s.most_high = 1;
     s.most_runs = 0;
-    let n = Verdict::NotMet;
-    assert_eq!(judge(&s, &r), [Verdict::Met, Verdict::Met, n, n, n, n]);
-    let y = Verdict::NotYet;
-    assert_eq!(judge(&s, &Report { undecided: 1, ..r }), [y, Verdict::Met, y, y, y, y]);
-    assert_eq!(judge(&s, &Report { undecided_composite: 1, ..r }), [Verdict::Met, y, n, n, n, n]);
-    // The set: not met before not yet before met.
-    let s = base();
-    let pair = |text: &str| vec![Some(made(&s, 0, "")), Some(made(&s, 0, text)), Some(made(&s, text.len() as u64, ""))];
-    let ask = |texts: &[&str]| {
-        let r: Vec<_> = texts.iter().flat_map(|t| pair(t)).collect();
-        verdicts(&bytes(&s), texts.len() as u64, r.len() * 1_024, &r, 6).unwrap()[0]
-    };
-    assert_eq!(ask(&["L", "L"]), Verdict::Met);
-    assert_eq!(ask(&["L", "H"]), y);
-    assert_eq!(ask(&["H", "HHH", "L"]), n);
+    assert_eq!(met(&s, &r), [true, true, false, false, false, false]);
     assert_eq!([Verdict::NotMet, Verdict::Met, Verdict::NotYet].map(|v| v.word()), [0, 1, 2]);
     assert_eq!([Verdict::NotMet, Verdict::Met, Verdict::NotYet].map(|v| v.text()), ["not met", "met", "not yet"]);
+}
+
+// Wish 3: undecided intervals taken as available and as unavailable. In the tables n = 3, p = 2 and C = 500,000 unless said otherwise, and a
+// comment gives the figure with the undecided ones available, then unavailable.
+
+const AVAILABILITY: usize = 0;
+const COMPOSITE: usize = 1;
+const LOSS: usize = 2;
+const MEAN: usize = 3;
+const HIGH: usize = 4;
+const RUNS: usize = 5;
+
+const NO: Verdict = Verdict::NotMet;
+const MET: Verdict = Verdict::Met;
+const WAIT: Verdict = Verdict::NotYet;
+
+fn objective(s: &mut Settings, which: usize) -> &mut u64 {
+    match which {
+        AVAILABILITY => &mut s.least_availability,
+        COMPOSITE => &mut s.least_composite,
+        LOSS => &mut s.most_loss,
+        MEAN => &mut s.most_mean,
+        HIGH => &mut s.most_high,
+        _ => &mut s.most_runs,
+    }
+}
+
+/// What is known before a period, the period, and what is known behind it.
+fn pair(s: &Settings, parts: [&str; 3]) -> Vec<Option<Summary>> {
+    let from = parts[0].len() as u64;
+    let to = from + parts[1].len() as u64;
+    vec![Some(made(s, 0, parts[0])), Some(made(s, from, parts[1])), Some(made(s, to, parts[2]))]
+}
+
+fn set_of(s: &Settings, pairs: &[[&str; 3]]) -> [Verdict; 6] {
+    let records: Vec<_> = pairs.iter().flat_map(|&parts| pair(s, parts)).collect();
+    verdicts(&bytes(s), pairs.len() as u64, records.len() * 1_024, &records, 6).unwrap()
+}
+
+/// Asks one objective of a set at several values.
+fn set_at(s: &Settings, pairs: &[[&str; 3]], which: usize, cases: &[(u64, Verdict)]) {
+    for &(value, expected) in cases {
+        let mut t = *s;
+        *objective(&mut t, which) = value;
+        assert_eq!(set_of(&t, pairs)[which], expected, "{pairs:?}, objective {which} at {value}");
+    }
+}
+
+fn parts_at(s: &Settings, parts: [&str; 3], which: usize, cases: &[(u64, Verdict)]) {
+    set_at(s, &[parts], which, cases);
+}
+
+/// The same of a period with nothing known around it, of the program too.
+fn at(s: &Settings, text: &str, which: usize, cases: &[(u64, Verdict)]) {
+    parts_at(s, ["", text, ""], which, cases);
+    for &(value, expected) in cases {
+        let mut t = *s;
+        *objective(&mut t, which) = value;
+        let printed = evaluate(Some(bytes(&t)), Some(written(&stretch(0, text))));
+        assert!(printed.lines().nth(6 + which).unwrap().ends_with(&format!(" {}", expected.text())));
+    }
+}
+
+fn with_n(n: u64, p: u64) -> Settings {
+    let mut s = base();
+    s.label.n = n;
+    s.label.p = p;
+    s
+}
+
+/// The two tracks apart: C is high on the composite track only, F on the loss track only.
+fn apart() -> Settings {
+    let mut s = base();
+    s.label.weights = 2;
+    s
+}
+
+#[test]
+fn last_two_of_a_long_period() {
+    let s = base();
+    let text = "L".repeat(98) + "HH";
+    // 100 or 98 of 100.
+    at(&s, &text, AVAILABILITY, &[(0, MET), (980_000, MET), (980_001, WAIT), (1_000_000, WAIT)]);
+    at(&s, &text, COMPOSITE, &[(980_000, MET), (980_001, WAIT)]);
+    // 20 of 1,000 lost, or 0 of 980.
+    at(&s, &text, LOSS, &[(0, WAIT), (19_999, WAIT), (20_000, MET)]);
+    // The mean is 1,000 either way, since nothing was delivered in the two.
+    at(&s, &text, MEAN, &[(999, NO), (1_000, MET)]);
+    // Two in one run, or none.
+    at(&s, &text, HIGH, &[(0, WAIT), (1, WAIT), (2, MET)]);
+    at(&s, &text, RUNS, &[(0, WAIT), (1, MET)]);
+    // Three unavailable before: 97 or 95 of 100.
+    let text = "HHH".to_string() + &"L".repeat(95) + "HH";
+    at(&s, &text, AVAILABILITY, &[(950_000, MET), (950_001, WAIT), (970_000, WAIT), (970_001, NO), (1_000_000, NO)]);
+    at(&s, &text, COMPOSITE, &[(950_000, MET), (950_001, WAIT), (970_000, WAIT), (970_001, NO)]);
+    // The last nine of many, n = 10: 7,000 or 6,991 of 10,000.
+    let text = "H".repeat(3_000) + &"L".repeat(6_991) + &"H".repeat(9);
+    at(&with_n(10, 0), &text, AVAILABILITY, &[(699_100, MET), (699_101, WAIT), (700_000, WAIT), (700_001, NO)]);
+}
+
+#[test]
+fn one_interval_decides() {
+    let s = base();
+    // 4 or 3 of 4.
+    at(&s, "LLLH", AVAILABILITY, &[(749_999, MET), (750_000, MET), (750_001, WAIT), (1_000_000, WAIT)]);
+    at(&s, "LLLH", COMPOSITE, &[(749_999, MET), (750_000, MET), (750_001, WAIT), (1_000_000, WAIT)]);
+    // 4 or 3 of 7: 428,571.4 and 571,428.6 parts per million.
+    for which in [AVAILABILITY, COMPOSITE] {
+        at(&s, "HHHLLLH", which, &[(428_571, MET), (428_572, WAIT), (571_428, WAIT), (571_429, NO)]);
+    }
+    // One mark on, it is settled: available, or unavailable with the two behind it.
+    at(&s, "LLLHL", AVAILABILITY, &[(1_000_000, MET)]);
+    at(&s, "LLLHHH", AVAILABILITY, &[(500_000, MET), (500_001, NO)]);
+}
+
+#[test]
+fn composite_undecided_alone() {
+    let s = apart();
+    // Composite labels 1, 2, 2: 3 or 1 of 3. Everything else is settled; the mean is 100,010,000 / 30 = 3,333,666.7.
+    at(&s, "LCC", COMPOSITE, &[(333_333, MET), (333_334, WAIT), (1_000_000, WAIT)]);
+    at(&s, "LCC", AVAILABILITY, &[(1_000_000, MET)]);
+    at(&s, "LCC", LOSS, &[(0, MET)]);
+    at(&s, "LCC", MEAN, &[(3_333_666, NO), (3_333_667, MET)]);
+    at(&s, "LCC", HIGH, &[(0, MET)]);
+    at(&s, "LCC", RUNS, &[(0, MET)]);
+    // F is high on the loss track, which stays unavailable: 0 of 5. Composite labels 0, 0, 0, 2, 2: 2 or 0 of 5.
+    at(&s, "HHHFF", AVAILABILITY, &[(0, MET), (1, NO)]);
+    at(&s, "HHHFF", COMPOSITE, &[(0, MET), (1, WAIT), (400_000, WAIT), (400_001, NO)]);
+    at(&s, "HHHFF", LOSS, &[(0, MET)]);
+    at(&s, "HHHFF", MEAN, &[(0, MET)]);
+    at(&s, "HHHFF", HIGH, &[(0, MET)]);
+}
+
+#[test]
+fn loss_track_undecided_alone() {
+    let s = apart();
+    // Loss labels 1, 2, 2: 3 or 1 of 3; 12 of 30 lost, or 0 of 10; the mean is 1,000 either way.
+    at(&s, "LFF", COMPOSITE, &[(1_000_000, MET)]);
+    at(&s, "LFF", AVAILABILITY, &[(333_333, MET), (333_334, WAIT), (1_000_000, WAIT)]);
+    at(&s, "LFF", LOSS, &[(0, WAIT), (399_999, WAIT), (400_000, MET)]);
+    at(&s, "LFF", MEAN, &[(999, NO), (1_000, MET)]);
+    at(&s, "LFF", HIGH, &[(1, WAIT), (2, MET)]);
+    at(&s, "LFF", RUNS, &[(0, WAIT), (1, MET)]);
+    // Loss labels 0, 0, 0, 2, 2, composite all 0. The mean is 5,000,000, or there is none.
+    at(&s, "HHHCC", COMPOSITE, &[(0, MET), (1, NO)]);
+    at(&s, "HHHCC", AVAILABILITY, &[(0, MET), (1, WAIT), (400_000, WAIT), (400_001, NO)]);
+    at(&s, "HHHCC", MEAN, &[(0, WAIT), (4_999_999, WAIT), (5_000_000, MET)]);
+}
+
+#[test]
+fn both_tracks_undecided_after_different_labels() {
+    // The last one is undecided on both: after an available label for loss, after an unacceptable one for the composite.
+    let s = apart();
+    at(&s, "CCCF", AVAILABILITY, &[(750_000, MET), (750_001, WAIT), (1_000_000, WAIT)]);
+    at(&s, "CCCF", COMPOSITE, &[(0, MET), (1, WAIT), (250_000, WAIT), (250_001, NO)]);
+    at(&s, "CCCF", HIGH, &[(0, WAIT), (1, MET)]);
+}
+
+#[test]
+fn undecided_in_maintenance() {
+    let s = base();
+    // The two undecided ones are in no tally: as L, L alone.
+    for which in [AVAILABILITY, COMPOSITE] {
+        at(&s, "LLhh", which, &[(1_000_000, MET)]);
+        at(&s, "HHHll", which, &[(0, MET), (1, NO)]);
+    }
+    at(&s, "LLhh", LOSS, &[(0, MET)]);
+    at(&s, "LLhh", MEAN, &[(999, NO), (1_000, MET)]);
+    at(&s, "LLhh", HIGH, &[(0, MET)]);
+    at(&s, "LLhh", RUNS, &[(0, MET)]);
+    at(&s, "LLbb", MEAN, &[(999, NO), (1_000, MET)]);
+    at(&s, "HHHcc", MEAN, &[(0, MET)]);
+    // One of the two counts: 3 of 3 or 2 of 3, one high or none, and never a run of two.
+    for text in ["LLhH", "LLHh"] {
+        at(&s, text, AVAILABILITY, &[(666_666, MET), (666_667, WAIT), (1_000_000, WAIT)]);
+        at(&s, text, HIGH, &[(0, WAIT), (1, MET)]);
+        at(&s, text, RUNS, &[(0, MET)]);
+    }
+    // 1 or 0 of 4.
+    for text in ["HHHLl", "HHHlL"] {
+        at(&s, text, AVAILABILITY, &[(0, MET), (1, WAIT), (250_000, WAIT), (250_001, NO)]);
+    }
+}
+
+#[test]
+fn undecided_runs() {
+    // n = 4, p = 3: the undecided run reaches p, or does not.
+    let s = with_n(4, 3);
+    at(&s, "LHHH", RUNS, &[(0, WAIT), (1, MET)]);
+    at(&s, "HHH", RUNS, &[(0, WAIT), (1, MET)]);
+    at(&s, "LHH", RUNS, &[(0, MET)]);
+    at(&s, "LHH", HIGH, &[(1, WAIT), (2, MET)]);
+    // Maintenance cuts it, or is at its end.
+    at(&s, "LHhH", RUNS, &[(0, MET)]);
+    at(&s, "LhHH", RUNS, &[(0, MET)]);
+    at(&with_n(4, 2), "LHhH", RUNS, &[(0, MET)]);
+    at(&with_n(4, 2), "LhHH", RUNS, &[(0, WAIT), (1, MET)]);
+    at(&with_n(4, 2), "LHHh", RUNS, &[(0, WAIT), (1, MET)]);
+    at(&with_n(6, 2), "LHHhHH", RUNS, &[(0, WAIT), (1, WAIT), (2, MET)]);
+    at(&with_n(6, 2), "LHHhH", RUNS, &[(0, WAIT), (1, MET)]);
+    // The period's ends cut it.
+    parts_at(&s, ["L", "HHH", ""], RUNS, &[(0, WAIT), (1, MET)]);
+    parts_at(&s, ["LH", "HH", ""], RUNS, &[(0, MET)]);
+    parts_at(&s, ["L", "HH", "H"], RUNS, &[(0, MET)]);
+    parts_at(&with_n(4, 2), ["L", "HH", "H"], RUNS, &[(0, WAIT), (1, MET)]);
+    parts_at(&with_n(4, 2), ["LH", "H", "H"], RUNS, &[(0, MET)]);
+    // No runs counted.
+    at(&with_n(4, 0), "LHHH", RUNS, &[(0, MET)]);
+}
+
+#[test]
+fn undecided_runs_beside_settled_ones() {
+    let s = base();
+    // Labels 1, 1, 1, 2, 2: two runs of two, or the settled one. Four high, or two.
+    at(&s, "HHLHH", RUNS, &[(0, NO), (1, WAIT), (2, MET)]);
+    at(&s, "HHLHH", HIGH, &[(1, NO), (2, WAIT), (3, WAIT), (4, MET)]);
+    // The settled one alone reaches p = 3, or neither does.
+    at(&with_n(4, 3), "HHHLHH", RUNS, &[(0, NO), (1, MET)]);
+    at(&with_n(4, 3), "HHLHH", RUNS, &[(0, MET)]);
+    at(&with_n(4, 3), "HHLHHH", RUNS, &[(0, WAIT), (1, MET)]);
+    // Undecided after an unavailable label there are no high ones: two high in one run either way, labels 1, 1, 1, 0, 0, 0, 2, 2.
+    at(&s, "HHLHHHLL", HIGH, &[(1, NO), (2, MET)]);
+    at(&s, "HHLHHHLL", RUNS, &[(0, NO), (1, MET)]);
+    at(&s, "LHHHLL", HIGH, &[(0, MET)]);
+    at(&s, "LHHHLL", RUNS, &[(0, MET)]);
+}
+
+#[test]
+fn nothing_counted() {
+    let s = base();
+    // Everything undecided: the report has W = 0, both tests have W = 2, and so only the objective 0 is met for sure.
+    let r = whole_period(&s, "HH");
+    assert_eq!((r.available + r.unavailable, r.undecided), (0, 2));
+    for which in [AVAILABILITY, COMPOSITE] {
+        at(&s, "HH", which, &[(0, MET), (1, WAIT), (1_000_000, WAIT)]);
+        // W = 0 remains where everything is in maintenance, undecided or not, and where the period is empty.
+        at(&s, "hh", which, &[(0, MET), (1_000_000, MET)]);
+        at(&s, "hhhll", which, &[(0, MET), (1_000_000, MET)]);
+        parts_at(&s, ["L", "", "HH"], which, &[(1_000_000, MET)]);
+        parts_at(&s, ["HHH", "", "LL"], which, &[(1_000_000, MET)]);
+        parts_at(&s, ["HH", "", ""], which, &[(1_000_000, MET)]);
+    }
+    // 20 of 20 lost, or none sent.
+    at(&s, "HH", LOSS, &[(0, WAIT), (999_999, WAIT), (1_000_000, MET)]);
+    // None delivered, or none sent.
+    at(&s, "HH", MEAN, &[(0, MET)]);
+    for which in [LOSS, MEAN, HIGH, RUNS] {
+        at(&s, "hh", which, &[(0, MET)]);
+        parts_at(&s, ["L", "", "HH"], which, &[(0, MET)]);
+    }
+    // None sent, whether it is available or not.
+    at(&s, "HHHZ", AVAILABILITY, &[(0, MET), (1, WAIT), (250_000, WAIT), (250_001, NO)]);
+    at(&s, "HHHZ", LOSS, &[(0, MET)]);
+    at(&s, "HHHZ", MEAN, &[(0, MET)]);
+}
+
+#[test]
+fn turning_back() {
+    let s = base();
+    // Labels 0, 0, 0, 2, 2: 2 or 0 of 5.
+    for which in [AVAILABILITY, COMPOSITE] {
+        at(&s, "HHHLL", which, &[(0, MET), (1, WAIT), (400_000, WAIT), (400_001, NO)]);
+        // One mark on: 3 or 0 of 6.
+        at(&s, "HHHLLL", which, &[(500_000, MET), (500_001, NO)]);
+        at(&s, "HHHLLH", which, &[(0, MET), (1, NO)]);
+    }
+    // 0 of 20 lost, or of 0; a mean of 1,000, or none.
+    at(&s, "HHHLL", LOSS, &[(0, MET)]);
+    at(&s, "HHHLL", MEAN, &[(0, WAIT), (999, WAIT), (1_000, MET)]);
+    at(&s, "HHHLL", HIGH, &[(0, MET)]);
+    at(&s, "HHHLL", RUNS, &[(0, MET)]);
+}
+
+#[test]
+fn loss_in_each_direction() {
+    let s = base();
+    // Undecided high ones. Available is worse: 6 of 20, or 0 of 10.
+    at(&s, "LF", LOSS, &[(0, WAIT), (299_999, WAIT), (300_000, MET)]);
+    // Available is better: 26 of 40, or 20 of 30 (666,666.7).
+    at(&s, "HHLF", LOSS, &[(649_999, NO), (650_000, WAIT), (666_666, WAIT), (666_667, MET)]);
+    // Undecided not high, after labels 1, 0, 0, 0. Available is worse: 5 of 20, or 0 of 10.
+    at(&s, "LHHHE", LOSS, &[(0, WAIT), (249_999, WAIT), (250_000, MET)]);
+    // Available is better, after labels 1, 1, 0, 0, 0: 10 of 30 (333,333.3), or 10 of 20.
+    at(&s, "HLHHHL", LOSS, &[(333_333, NO), (333_334, WAIT), (499_999, WAIT), (500_000, MET)]);
+}
+
+#[test]
+fn mean_in_each_direction() {
+    let s = base();
+    // Undecided high ones. Available is worse: 20,010,000 / 14 = 1,429,285.7, or 1,000.
+    at(&s, "LB", MEAN, &[(999, NO), (1_000, WAIT), (1_429_285, WAIT), (1_429_286, MET)]);
+    // Available is better: 50,004,000 / 14 = 3,571,714.3, or 5,000,000.
+    at(&s, "CF", MEAN, &[(3_571_714, NO), (3_571_715, WAIT), (4_999_999, WAIT), (5_000_000, MET)]);
+    // Undecided not high, after labels 1, 0, 0, 0. Available is worse: 50,010,000 / 20, or 1,000.
+    at(&s, "LHHHC", MEAN, &[(999, NO), (1_000, WAIT), (2_500_499, WAIT), (2_500_500, MET)]);
+    // Available is better: 50,010,000 / 20, or 5,000,000.
+    at(&s, "CHHHL", MEAN, &[(2_500_499, NO), (2_500_500, WAIT), (4_999_999, WAIT), (5_000_000, MET)]);
+}
+
+#[test]
+fn known_around_the_period() {
+    let s = base();
+    // Of undecided ones only the period's count: 1 of 1 or 0 of 1.
+    for parts in [["LH", "H", ""], ["L", "H", "H"], ["", "H", "H"], ["HHHL", "L", ""], ["HHH", "L", "L"]] {
+        parts_at(&s, parts, AVAILABILITY, &[(0, MET), (1, WAIT), (1_000_000, WAIT)]);
+        parts_at(&s, parts, RUNS, &[(0, MET)]);
+    }
+    // 2 of 2 or 0 of 2; 3 of 3 or 2 of 3.
+    parts_at(&s, ["HHH", "LL", ""], AVAILABILITY, &[(0, MET), (1, WAIT), (1_000_000, WAIT)]);
+    parts_at(&s, ["L", "LLH", "H"], AVAILABILITY, &[(666_666, MET), (666_667, WAIT), (1_000_000, WAIT)]);
+    // What lies behind settles them.
+    parts_at(&s, ["L", "HH", "L"], AVAILABILITY, &[(1_000_000, MET)]);
+    parts_at(&s, ["L", "HH", "H"], AVAILABILITY, &[(0, MET), (1, NO)]);
+    parts_at(&s, ["HHH", "LL", "L"], AVAILABILITY, &[(1_000_000, MET)]);
+    parts_at(&s, ["HHH", "LL", "H"], AVAILABILITY, &[(0, MET), (1, NO)]);
+    // Undecided behind the period only.
+    for which in [AVAILABILITY, COMPOSITE] {
+        parts_at(&s, ["HH", "LL", "HH"], which, &[(1_000_000, MET)]);
+        parts_at(&s, ["H", "HH", "LL"], which, &[(0, MET), (1, NO)]);
+    }
+    // Settled runs before the period do not count with the undecided ones in it: two in one run, or none.
+    parts_at(&s, ["HHL", "HH", ""], RUNS, &[(0, WAIT), (1, MET)]);
+    parts_at(&s, ["HHL", "HH", ""], HIGH, &[(1, WAIT), (2, MET)]);
+}
+
+#[test]
+fn report_as_before() {
+    // Undecided intervals are in no figure but their own.
+    let s = base();
+    assert_eq!(whole_period(&s, "LHH").words(), [3, 0, 1, 0, 2, 0, 0, 10, 0, 10_000, 1_000, 1_000, 1, 0, 2]);
+    assert_eq!(whole_period(&s, "HHHLl").words(), [5, 1, 0, 3, 1, 0, 0, 0, 0, 0, 0, 0, 0, 3, 1]);
+    // So equal figures can have different verdicts: 10 of 20 lost or 6 of 20 where the last one is available.
+    assert_eq!(whole_period(&s, "LH"), whole_period(&s, "LF"));
+    at(&s, "LH", LOSS, &[(300_000, WAIT), (499_999, WAIT), (500_000, MET)]);
+    at(&s, "LF", LOSS, &[(300_000, MET)]);
+}
+
+#[test]
+fn sets() {
+    let s = base();
+    let set = |texts: &[&'static str], which: usize, cases: &[(u64, Verdict)]| {
+        let pairs: Vec<_> = texts.iter().map(|t| ["", t, ""]).collect();
+        set_at(&s, &pairs, which, cases);
+    };
+    // Not met before not yet before met.
+    set(&["L", "L"], AVAILABILITY, &[(500_000, MET)]);
+    set(&["L", "H"], AVAILABILITY, &[(500_000, WAIT)]);
+    set(&["H", "HHH", "L"], AVAILABILITY, &[(500_000, NO)]);
+    // LLHH is 4 or 2 of 4, HHHLL 2 or 0 of 5: undecided ones that keep no pair, and so no set, waiting.
+    set(&["L", "LLHH"], AVAILABILITY, &[(500_000, MET), (500_001, WAIT)]);
+    set(&["HHHLL", "L"], AVAILABILITY, &[(0, MET), (1, WAIT), (400_000, WAIT), (400_001, NO)]);
+    set(&["LLHH", "H"], AVAILABILITY, &[(500_000, WAIT)]);
+    set(&["H", "HHHLL", "LLHH"], AVAILABILITY, &[(400_000, WAIT), (400_001, NO)]);
+    // Each objective by itself.
+    assert_eq!(set_of(&s, &[["", "LLHH", ""], ["", "HHHLL", ""]]), [NO, NO, WAIT, MET, WAIT, WAIT]);
+    // Two pairs that turn opposite ways. LH has 10 of 20 lost or 0 of 10, HLHHHL has 10 of 30 or 10 of 20. From 333,334 to 499,999 one of
+    // them is not met when both are available, the other when both are unavailable; yet each may still be met.
+    set(&["LH"], LOSS, &[(333_333, WAIT), (333_334, WAIT), (499_999, WAIT), (500_000, MET)]);
+    set(&["HLHHHL"], LOSS, &[(333_333, NO), (333_334, WAIT), (499_999, WAIT), (500_000, MET)]);
+    set(&["LH", "HLHHHL"], LOSS, &[(333_333, NO), (333_334, WAIT), (400_000, WAIT), (499_999, WAIT), (500_000, MET)]);
+    // The same with the mean: 2,500,500 or 1,000, and 50,020,000 / 30 = 1,667,333.3 or 5,000,000.
+    let cases = [(1_667_333, NO), (1_667_334, WAIT), (2_500_499, WAIT), (2_500_500, WAIT), (4_999_999, WAIT), (5_000_000, MET)];
+    set(&["LHHHC", "CHHHLL"], MEAN, &cases);
+}
+
+// Wish 3 in full for small n.
+
+#[test]
+fn undecided_ones_take_one_label() {
+    for n in 1..=5 {
+        for length in 0..=9 {
+            for known in bits(length) {
+                let labels = settle(n, &known);
+                let undecided: Vec<usize> = (0..length).filter(|&k| labels[k] == Label::Undecided).collect();
+                if let Some(&first) = undecided.first() {
+                    // They are the last ones, of equal marks, and no settled one adjoins with the same mark: it lengthens no run.
+                    assert_eq!(undecided, (first..length).collect::<Vec<_>>());
+                    assert!(known[first..].iter().all(|&mark| mark == known[first]));
+                    assert!(first == 0 || known[first - 1] != known[first]);
+                }
+                let mut taken = std::collections::BTreeSet::new();
+                for tail in bits(n) {
+                    let continued = by_windows(n, &[known.clone(), tail.clone()].concat(), length);
+                    let here: std::collections::BTreeSet<bool> = undecided.iter().map(|&k| continued[k]).collect();
+                    assert!(here.len() <= 1);
+                    taken.extend(here);
+                    // Nor do fewer marks part them.
+                    for more in 0..n {
+                        let labels = settle(n, &[&known[..], &tail[..more]].concat());
+                        assert!(undecided.iter().all(|&k| labels[k] == labels[undecided[0]]));
+                    }
+                }
+                assert_eq!(taken.len(), if undecided.is_empty() { 0 } else { 2 });
+            }
+        }
+    }
+}
+
+/// All texts of so many of the letters.
+fn texts(letters: &str, length: usize) -> Vec<String> {
+    if length == 0 {
+        return vec![String::new()];
+    }
+    let shorter = texts(letters, length - 1);
+    letters.chars().flat_map(|letter| shorter.iter().map(move |t| format!("{letter}{t}"))).collect()
+}
+
+/// The verdicts by the reports of all continuations by n intervals, high on both tracks or on neither: not yet where two differ.
+fn by_continuations(s: &Settings, text: &str, from: usize, to: usize) -> [Verdict; 6] {
+    let mut answers = Vec::new();
+    for tail in texts("LB", s.label.n as usize) {
+        let r = report_of(&s.label, &stretch(0, &(text.to_string() + &tail)), from, to);
+        assert_eq!((r.undecided, r.undecided_composite), (0, 0));
+        answers.push(met(s, &r));
+    }
+    std::array::from_fn(|k| {
+        if answers.iter().all(|a| a[k]) {
+            MET
+        } else if answers.iter().all(|a| !a[k]) {
+            NO
+        } else {
+            WAIT
+        }
+    })
+}
+
+/// Objectives at and beside the fractions that few intervals can give.
+fn drawn(s: &mut Settings, next: &mut impl FnMut(u64) -> u64) {
+    for which in [AVAILABILITY, COMPOSITE, LOSS] {
+        let parts = 1 + next(6);
+        *objective(s, which) = (MILLION * next(parts + 1) / parts + next(2)).min(MILLION);
+    }
+    s.most_mean = [0, 999, 1_000, 1_001, 5_000_000, next(5_000_000), next(5_000_000)][next(7) as usize];
+    s.most_high = next(4);
+    s.most_runs = if s.label.p == 0 { 0 } else { next(3) };
+}
+
+#[test]
+fn verdicts_by_all_continuations() {
+    let mut seed = 1_u64;
+    let mut next = |m: u64| {
+        seed = seed.wrapping_mul(6_364_136_223_846_793_005).wrapping_add(1_442_695_040_888_963_407);
+        (seed >> 33) % m
+    };
+    let mut seen = [[0; 3]; 6];
+    for (n, p) in [(1, 0), (2, 0), (3, 2), (4, 2)] {
+        for (letters, longest) in [("HLh", 6), ("LCFBlb", 4)] {
+            let mut s = with_n(n, p);
+            s.label.weights = 2;
+            for text in (0..=longest).flat_map(|length| texts(letters, length)) {
+                let known = stretch(0, &text);
+                for from in 0..=text.len() {
+                    for to in from..=text.len() {
+                        drawn(&mut s, &mut next);
+                        let judged = judge(&s, &known, from, to);
+                        assert_eq!(judged, by_continuations(&s, &text, from, to), "{text} from {from} to {to}, {s:?}");
+                        for which in 0..6 {
+                            seen[which][judged[which].word() as usize] += 1;
+                        }
+                    }
+                }
+            }
+        }
+    }
+    // All three verdicts came up for each objective.
+    assert!(seen.iter().flatten().all(|&count| count > 100), "{seen:?}");
 }

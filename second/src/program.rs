@@ -12,7 +12,7 @@ fn answer(settings: &[u8], intervals: &[u8]) -> Answer<String> {
     };
     let stretch = read_stretch(&whole(intervals, 48)?, 0)?;
     let r = report_of(&s.label, &stretch, 0, stretch.len());
-    let v = judge(&s, &r);
+    let v = judge(&s, &stretch, 0, stretch.len());
     let mut lines = vec![
         format!("length {} maintenance {}", r.length, r.maintenance),
         format!("available {} unavailable {} undecided {}", r.available, r.unavailable, r.undecided),

@@ -49,6 +49,27 @@ impl Report {
 /// The report of the period from `from` to before `to`; `known` are all the known intervals, from 0 on.
 pub fn report_of(s: &LabelSettings, known: &[Interval], from: usize, to: usize) -> Report {
     let (loss, composite) = both_tracks(s, known);
+    counted(s, known, &loss, &composite, from, to)
+}
+
+/// The same report with the undecided intervals of the period, on both tracks, all taken as `label`.
+pub fn report_taking(s: &LabelSettings, known: &[Interval], from: usize, to: usize, label: Label) -> Report {
+    let (mut loss, mut composite) = both_tracks(s, known);
+    take_undecided(&mut loss[from..to], label);
+    take_undecided(&mut composite[from..to], label);
+    counted(s, known, &loss, &composite, from, to)
+}
+
+fn take_undecided(labels: &mut [Label], label: Label) {
+    for l in labels {
+        if *l == Label::Undecided {
+            *l = label;
+        }
+    }
+}
+
+/// The report of the period by these labels of the known intervals. No figure goes by both tracks.
+fn counted(s: &LabelSettings, known: &[Interval], loss: &[Label], composite: &[Label], from: usize, to: usize) -> Report {
     let mut r = Report { length: (to - from) as u64, ..Report::default() };
     let mut delivering: Vec<&Interval> = Vec::new();
     let mut high = Vec::new();
@@ -87,14 +108,20 @@ pub fn report_of(s: &LabelSettings, known: &[Interval], from: usize, to: usize) 
     r
 }
 
-/// The report of the middle one of three good summaries.
-pub fn report_of_three(three: &[&Summary]) -> Report {
+/// All that three good summaries know, with the begin and the end of the middle one in it.
+pub fn period_of_three(three: &[&Summary]) -> (Vec<Interval>, usize, usize) {
     let mut known = Vec::new();
     for summary in three {
         known.extend(&summary.intervals);
     }
     let from = three[0].intervals.len();
-    report_of(&three[0].settings, &known, from, from + three[1].intervals.len())
+    (known, from, from + three[1].intervals.len())
+}
+
+/// The report of the middle one of three good summaries.
+pub fn report_of_three(three: &[&Summary]) -> Report {
+    let (known, from, to) = period_of_three(three);
+    report_of(&three[0].settings, &known, from, to)
 }
 
 pub fn report(length: usize, records: &[Option<Summary>], room_words: usize) -> Answer<Report> {

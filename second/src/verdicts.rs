@@ -1,8 +1,9 @@
 //! Verdicts: reports against the objectives of the settings, for a set of ordered pairs.
 
-use crate::records::{read_settings, Settings, MILLION};
+use crate::labels::Label;
+use crate::records::{read_settings, Interval, Settings, MILLION};
 use crate::refusals::{refuse, room_for_words, Answer, LENGTH, MISMATCH, PAIRS, SETTINGS};
-use crate::reports::{report_of_three, Report};
+use crate::reports::{period_of_three, report_taking, Report};
 use crate::summaries::{all_valid, equal_settings, from_zero, Summary, SUMMARY_BYTES};
 
 #[derive(Clone, Copy, Debug, PartialEq, Eq)]
@@ -34,30 +35,33 @@ fn product(a: u64, b: u64) -> u128 {
     a as u128 * b as u128
 }
 
-fn verdict(undecided: u64, met: bool) -> Verdict {
-    if undecided > 0 {
-        Verdict::NotYet
-    } else if met {
-        Verdict::Met
-    } else {
-        Verdict::NotMet
+/// Whether a report without undecided intervals meets the objectives: availability, composite, loss, mean delay, high loss intervals,
+/// runs.
+pub fn met(s: &Settings, r: &Report) -> [bool; 6] {
+    [
+        product(r.available, MILLION) >= product(s.least_availability, r.available + r.unavailable),
+        product(r.acceptable, MILLION) >= product(s.least_composite, r.acceptable + r.unacceptable),
+        product(r.lost, MILLION) <= product(s.most_loss, r.sent),
+        r.sum as u128 <= product(s.most_mean, r.sent - r.lost),
+        r.high <= s.most_high,
+        r.runs <= s.most_runs,
+    ]
+}
+
+fn verdict(met_when_available: bool, met_when_unavailable: bool) -> Verdict {
+    match (met_when_available, met_when_unavailable) {
+        (true, true) => Verdict::Met,
+        (false, false) => Verdict::NotMet,
+        _ => Verdict::NotYet,
     }
 }
 
-/// Availability, composite, loss, mean delay, high loss intervals, runs.
-pub fn judge(s: &Settings, r: &Report) -> [Verdict; 6] {
-    let availability = product(r.available, MILLION) >= product(s.least_availability, r.available + r.unavailable);
-    let composite = product(r.acceptable, MILLION) >= product(s.least_composite, r.acceptable + r.unacceptable);
-    let loss = product(r.lost, MILLION) <= product(s.most_loss, r.sent);
-    let mean = r.sum as u128 <= product(s.most_mean, r.sent - r.lost);
-    [
-        verdict(r.undecided, availability),
-        verdict(r.undecided_composite, composite),
-        verdict(r.undecided, loss),
-        verdict(r.undecided, mean),
-        verdict(r.undecided, r.high <= s.most_high),
-        verdict(r.undecided, r.runs <= s.most_runs),
-    ]
+/// The verdicts of one pair on the period from `from` to before `to`, in the order of `met`: the report is made twice, with the
+/// undecided intervals of the period all available and with them all unavailable, and each is asked.
+pub fn judge(s: &Settings, known: &[Interval], from: usize, to: usize) -> [Verdict; 6] {
+    let available = met(s, &report_taking(&s.label, known, from, to, Label::Available));
+    let unavailable = met(s, &report_taking(&s.label, known, from, to, Label::Unavailable));
+    std::array::from_fn(|k| verdict(available[k], unavailable[k]))
 }
 
 pub fn verdicts(
@@ -87,7 +91,8 @@ pub fn verdicts(
         }
         equal_settings(&three, place)?;
         from_zero(&three, place)?;
-        judged.push(judge(&s, &report_of_three(&three)));
+        let (known, from, to) = period_of_three(&three);
+        judged.push(judge(&s, &known, from, to));
     }
     let mut set = [Verdict::Met; 6];
     for objective in 0..6 {

@@ -1,4 +1,7 @@
 -- The laws of this crate that belong to no one function.
+pub mod Border
+pub mod Splitting
+pub mod Taken
 pub mod Judging
 pub mod Gathering
 pub mod Fitting

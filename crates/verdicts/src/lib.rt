@@ -2,18 +2,42 @@
 use numbers::limits;
 use settings::Settings;
 use tallies::Period;
-use tallies::Totals;
 ghost use mathlib.Core.Path.{_≡_};
+ghost use mathlib.Core.Bool.{true, false};
 ghost use mathlib.Core.List.{[], _∷_};
-ghost use Prim.Native.Nat.{_+_, _*_, _≤_};
-ghost use Rattle.numbers.specs.Limits.{intervals, frames, million, largestDelay};
-ghost use Rattle.verdicts.specs.Verdicts.{verdictNumber, judged, enough, lossMet, meanMet, Judgeable, verdictsOf};
+ghost use Prim.Native.Nat.{_+_, _≤_};
+ghost use Rattle.numbers.specs.Limits.{intervals, million, largestDelay};
+ghost use Rattle.verdicts.specs.Figures.{takenAs, verdictsOf, Fits, Objectives, Judgeable};
+ghost use Rattle.verdicts.specs.Verdicts.{verdictNumber, common, enough, lossMet, meanMet, metBy};
 ghost use Rattle.verdicts.specs.Sets.{ofSet, ofSets};
 
 pub enum Verdict {
     NotMet,
     Met,
     NotYet,
+}
+
+// The figures of a report that the objectives are tested by.
+pub struct Asked {
+    pub available: u32,
+    pub unavailable: u32,
+    pub acceptable: u32,
+    pub unacceptable: u32,
+    pub high: u32,
+    pub runs: u32,
+    pub sent: u64,
+    pub lost: u64,
+    pub sum: u64,
+}
+
+// Which objectives are met.
+pub struct Met {
+    pub availability: bool,
+    pub composite: bool,
+    pub loss: bool,
+    pub mean: bool,
+    pub high: bool,
+    pub runs: bool,
 }
 
 // A verdict for each objective.
@@ -37,14 +61,14 @@ pub fn number(v: Verdict) -> u64
     }
 }
 
-// The verdict of a test, with so many intervals undecided.
-fn verdict_of(undecided: u32, met: bool) -> Verdict
-    ensures { λ r. ⌜ r ≡ judged undecided met ⌝ }
+// What is said of an objective that is met, or not, with the undecided intervals taken one way and the other.
+fn verdict_of(a: bool, b: bool) -> Verdict
+    ensures { λ r. ⌜ r ≡ common a b ⌝ }
 {
-    if undecided != 0 {
+    if a != b {
         return Verdict::NotYet;
     }
-    if met { Verdict::Met } else { Verdict::NotMet }
+    if a { Verdict::Met } else { Verdict::NotMet }
 }
 
 // Whether the good ones are so many parts per million of all.
@@ -55,18 +79,74 @@ fn is_enough(objective: u32, good: u32, bad: u32) -> bool
     (objective as u64) * ((good + bad) as u64) <= (good as u64) * (limits::MILLION as u64)
 }
 
-fn loss_met(objective: u32, t: Totals) -> bool
-    requires { ⌜ (objective ≤ million) × (t .sent ≤ intervals * frames) × (t .lost ≤ t .sent) ⌝ }
-    ensures { λ r. ⌜ r ≡ lossMet objective t ⌝ }
+fn loss_met(objective: u32, a: Asked) -> bool
+    requires { ⌜ (objective ≤ million) × Fits a ⌝ }
+    ensures { λ r. ⌜ r ≡ lossMet objective a ⌝ }
 {
-    t.lost * (limits::MILLION as u64) <= (objective as u64) * t.sent
+    a.lost * (limits::MILLION as u64) <= (objective as u64) * a.sent
 }
 
-fn mean_met(objective: u32, t: Totals) -> bool
-    requires { ⌜ (objective ≤ largestDelay) × (t .sent ≤ intervals * frames) × (t .lost ≤ t .sent) ⌝ }
-    ensures { λ r. ⌜ r ≡ meanMet objective t ⌝ }
+fn mean_met(objective: u32, a: Asked) -> bool
+    requires { ⌜ (objective ≤ largestDelay) × Fits a ⌝ }
+    ensures { λ r. ⌜ r ≡ meanMet objective a ⌝ }
 {
-    t.sum <= (objective as u64) * (t.sent - t.lost)
+    a.sum <= (objective as u64) * (a.sent - a.lost)
+}
+
+// Which objectives are met by these figures.
+fn met_by(v: Settings, a: Asked) -> Met
+    requires { ⌜ Objectives v × Fits a ⌝ }
+    ensures { λ r. ⌜ r ≡ metBy v a ⌝ }
+{
+    Met {
+        availability: is_enough(v.availability, a.available, a.unavailable),
+        composite: is_enough(v.composite, a.acceptable, a.unacceptable),
+        loss: loss_met(v.loss, a),
+        mean: mean_met(v.mean, a),
+        high: a.high <= v.high,
+        runs: a.runs <= v.runs,
+    }
+}
+
+// The figures of a report, its undecided intervals taken as available.
+fn as_available(r: Period) -> Asked
+    requires { ⌜ Fits (takenAs false r) ⌝ }
+    ensures { λ a. ⌜ a ≡ takenAs false r ⌝ }
+{
+    let t = r.loss.available;
+    let u = r.loss.undecided;
+    let c = r.composite;
+    Asked {
+        available: t.count + u.count,
+        unavailable: r.loss.unavailable,
+        acceptable: c.available + c.undecided,
+        unacceptable: c.unavailable,
+        high: t.high + u.high,
+        runs: t.runs + u.runs,
+        sent: t.sent + u.sent,
+        lost: t.lost + u.lost,
+        sum: t.sum + u.sum,
+    }
+}
+
+// The figures of a report, its undecided intervals taken as unavailable.
+fn as_unavailable(r: Period) -> Asked
+    requires { ⌜ Fits (takenAs true r) ⌝ }
+    ensures { λ a. ⌜ a ≡ takenAs true r ⌝ }
+{
+    let t = r.loss.available;
+    let c = r.composite;
+    Asked {
+        available: t.count,
+        unavailable: r.loss.unavailable + r.loss.undecided.count,
+        acceptable: c.available,
+        unacceptable: c.unavailable + c.undecided,
+        high: t.high,
+        runs: t.runs,
+        sent: t.sent,
+        lost: t.lost,
+        sum: t.sum,
+    }
 }
 
 // The verdicts of a report.
@@ -74,22 +154,15 @@ pub fn verdicts_of(v: Settings, r: Period) -> Verdicts
     requires { ⌜ Judgeable v r ⌝ }
     ensures { λ w. ⌜ w ≡ verdictsOf v r ⌝ }
 {
-    let t = r.loss.available;
-    let undecided = r.loss.undecided.count;
-    let c = r.composite;
+    let a = met_by(v, as_available(r));
+    let b = met_by(v, as_unavailable(r));
     Verdicts {
-        availability: verdict_of(
-            undecided,
-            is_enough(v.availability, t.count, r.loss.unavailable),
-        ),
-        composite: verdict_of(
-            c.undecided,
-            is_enough(v.composite, c.available, c.unavailable),
-        ),
-        loss: verdict_of(undecided, loss_met(v.loss, t)),
-        mean: verdict_of(undecided, mean_met(v.mean, t)),
-        high: verdict_of(undecided, t.high <= v.high),
-        runs: verdict_of(undecided, t.runs <= v.runs),
+        availability: verdict_of(a.availability, b.availability),
+        composite: verdict_of(a.composite, b.composite),
+        loss: verdict_of(a.loss, b.loss),
+        mean: verdict_of(a.mean, b.mean),
+        high: verdict_of(a.high, b.high),
+        runs: verdict_of(a.runs, b.runs),
     }
 }
 
