@@ -1,6 +1,6 @@
 -- The third demand. A circuit's intervals, cut anywhere, summarised stretch by stretch without knowing what came before and joined in any grouping, give byte for byte the
 -- record of the uncut sequence (`any-cut`); the report on before, period and after is the definition's over the sequence so far (`report-of-cuts`), and the verdicts on a set of
--- such are those of the definition's reports (`verdicts-of-cuts`). Stretches may be summarised under settings that differ in objectives, and each record may be written at any offset of
+-- such are the definition's (`verdicts-of-cuts`). Stretches may be summarised under settings that differ in objectives, and each record may be written at any offset of
 -- any buffer with room: of each call nothing is known but its contract.
 -- Assumes nothing.
 use mathlib.Core.Path.{_≡_, refl, ap, sym, _∙_, subst}
@@ -14,7 +14,6 @@ use Rattle.settings.specs.declared.LabelSettings.{LabelSettings}
 use Rattle.settings.specs.declared.Settings.{Settings}
 use Rattle.settings.specs.declared.SettingsRead.{SettingsRead}
 use Rattle.tallies.specs.Report.{Labelled}
-use Rattle.verdicts.specs.Verdicts.{verdictsOf}
 use Rattle.verdicts.specs.Sets.{ofSets}
 use Rattle.summaries.specs.Stored.{summaryBytes}
 use Rattle.making.specs.declared.Made.{Made}
@@ -23,7 +22,7 @@ use Rattle.reports.specs.Circuits.{threeBytes, setBytes, defined}
 use Rattle.reports.specs.Three.{reportOf}
 use Rattle.reports.specs.declared.Reported.{Reported}
 use Rattle.reports.proofs.Defined as reports
-use Rattle.sets.specs.Sets.{judgedOf}
+use Rattle.sets.specs.Sets.{judgedOf, definedVerdicts}
 use Rattle.sets.specs.declared.Judged.{Judged}
 use Rattle.sets.proofs.Defined as sets
 use Rattle.demands.specs.Cuts.{Cut, uncut, BetweenRecords, Under, behind, SummaryCalled, Gives, NoneRefused}
@@ -137,10 +136,10 @@ unfolding AllKnown sets.AllSound
 set-sound l [] h = tt
 set-sound l (x ∷ xs) h = (pair-sound l x (h .0), set-sound l xs (h .1))
 
--- The verdicts on a set of such pairs are those of the definition's reports, one pair after the other.
+-- The verdicts on a set of such pairs are the definition's, one pair after the other.
 pub verdicts-of-cuts :
     (settings : List ℕ) (v : Settings) → settingsOf settings ≡ SettingsRead.Valid v → (xs : List Pair) → AllKnown (v .label) xs → 1 ≤ length xs → length xs ≤ pairs →
-    (bytes : List ℕ) → AllGive xs bytes → judgedOf settings (length xs) bytes ≡ Judged.Answered (ofSets (map (λ x. verdictsOf v (defined (v .label) x)) (map circuitOf xs)))
+    (bytes : List ℕ) → AllGive xs bytes → judgedOf settings (length xs) bytes ≡ Judged.Answered (ofSets (map (definedVerdicts v) (map circuitOf xs)))
 verdicts-of-cuts settings v read xs h some few bytes g =
     let n : length (map circuitOf xs) ≡ length xs = length-map xs circuitOf in
     ap (judgedOf settings (length xs)) (set-bytes (v .label) xs h bytes g)

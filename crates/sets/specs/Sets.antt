@@ -13,11 +13,12 @@ use Rattle.settings.specs.Settings.{settingsOf}
 use Rattle.settings.specs.declared.LabelSettings.{LabelSettings}
 use Rattle.settings.specs.declared.Settings.{Settings}
 use Rattle.settings.specs.declared.SettingsRead.{SettingsRead}
-use Rattle.verdicts.specs.Verdicts.{verdictsOf}
+use Rattle.verdicts.specs.Verdicts.{verdictsBy, verdictsOf}
 use Rattle.verdicts.specs.Sets.{ofSets}
 use Rattle.verdicts.specs.declared.Verdicts.{Verdicts}
 use Rattle.reports.specs.declared.Reported.{Reported}
 use Rattle.reports.specs.declared.Wanted.{Wanted}
+use Rattle.reports.specs.Circuits.{Circuit}
 use Rattle.reports.specs.Three.{threeAt}
 use Rattle.sets.specs.declared.Judged.{Judged}
 
@@ -45,6 +46,10 @@ withSettings (SettingsRead.Valid v) n s =
 -- of settings, a number of pairs and their summaries
 unfoldable pub judgedOf : List ℕ → ℕ → List ℕ → Judged
 judgedOf settings n s = withSettings (settingsOf settings) n s
+
+-- the verdicts of a pair, as the definition has them by the labels of all that is known
+abbrev pub definedVerdicts : Settings → Circuit → Verdicts
+definedVerdicts v x = verdictsBy v (x .loss) (x .composite) (length (x .before)) (x .middle)
 
 -- what the pairs are gone over with: valid settings, and not too many
 pub record Gone (v : Settings) (n : ℕ) : Type 0 where

@@ -11,15 +11,15 @@ use Rattle.settings.proofs.SettingsRecord.{SettingsValid}
 use Rattle.tallies.specs.declared.Period.{Period}
 use Rattle.tallies.specs.declared.Totals.{Totals}
 use Rattle.tallies.specs.Bounds.{Bounded, PeriodBounded}
-use Rattle.verdicts.specs.Figures.{takenAs, Fits, Judgeable}
+use Rattle.verdicts.specs.Verdicts.{takenAs, Fits, Judgeable}
 
 -- no more runs than high intervals
-runs-few : (p : ℕ) (t : Totals) → Bounded p t → t .runs ≤ t .high
+pub runs-few : (p : ℕ) (t : Totals) → Bounded p t → t .runs ≤ t .high
 runs-few zero t b = omega (arith, b .unasked refl)
 runs-few (suc p) t b = omega (arith, b .runs)
 
 -- each frame counts with the largest delay at most
-sum-few : (p : ℕ) (t : Totals) → Bounded p t → t .sum ≤ largestDelay * t .sent
+pub sum-few : (p : ℕ) (t : Totals) → Bounded p t → t .sum ≤ largestDelay * t .sent
 sum-few p t b =
     let fewer : t .sent - t .lost ≤ t .sent = omega arith in
     omega (arith, b .to, mul-le-mul (b .within) fewer)

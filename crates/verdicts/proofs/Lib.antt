@@ -3,6 +3,7 @@ pub mod Border
 pub mod Splitting
 pub mod Taken
 pub mod Judging
+pub mod FirstRule
 pub mod Gathering
 pub mod Fitting
 pub mod Lines

@@ -21,8 +21,7 @@ use Rattle.tallies.specs.declared.Period.{Period}
 use Rattle.tallies.specs.Seen.{markedAs, lossSeen, compositeSeen}
 use Rattle.tallies.specs.Tally.{Labels, is, counts, those, highs, number, runsOf, total, totalled, tally, marks}
 use Rattle.tallies.specs.Report.{Labelled, counted, report}
-use Rattle.verdicts.specs.Verdicts.{decided, taken, asked, metBy, agreed, verdictsBy}
-use Rattle.verdicts.specs.Figures.{takenAs, verdictsOf}
+use Rattle.verdicts.specs.Verdicts.{decided, taken, asked, metBy, agreed, verdictsBy, takenAs, verdictsOf}
 use Rattle.verdicts.proofs.Border.{no-run-across}
 use Rattle.verdicts.proofs.Splitting.{Split, done, one, other, number-split, runs-split}
 

@@ -7,8 +7,7 @@ ghost use mathlib.Core.Bool.{true, false};
 ghost use mathlib.Core.List.{[], _∷_};
 ghost use Prim.Native.Nat.{_+_, _≤_};
 ghost use Rattle.numbers.specs.Limits.{intervals, million, largestDelay};
-ghost use Rattle.verdicts.specs.Figures.{takenAs, verdictsOf, Fits, Objectives, Judgeable};
-ghost use Rattle.verdicts.specs.Verdicts.{verdictNumber, common, enough, lossMet, meanMet, metBy};
+ghost use Rattle.verdicts.specs.Verdicts.{verdictNumber, common, enough, lossMet, meanMet, metBy, takenAs, verdictsOf, Fits, Objectives, Judgeable};
 ghost use Rattle.verdicts.specs.Sets.{ofSet, ofSets};
 
 pub enum Verdict {

@@ -3,7 +3,7 @@ use borrow.Author.Needs.{needs}
 use mathlib.Core.Path.{refl}
 use native.Mathlib.Omega.{arith}
 use Rattle.numbers.specs.Limits.{intervals, frames, largestDelay}
-use Rattle.verdicts.specs.Figures.{takenAs}
+use Rattle.verdicts.specs.Verdicts.{takenAs}
 use Rattle.verdicts.proofs.as_available.Statement.{statement}
 use Rattle.verdicts.proofs.as_available.Tie as tie
 

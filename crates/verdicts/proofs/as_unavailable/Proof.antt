@@ -2,7 +2,7 @@
 use borrow.Author.Needs.{needs}
 use mathlib.Core.Path.{refl}
 use Rattle.numbers.specs.Limits.{intervals}
-use Rattle.verdicts.specs.Figures.{takenAs}
+use Rattle.verdicts.specs.Verdicts.{takenAs}
 use Rattle.verdicts.proofs.as_unavailable.Statement.{statement}
 use Rattle.verdicts.proofs.as_unavailable.Tie as tie
 

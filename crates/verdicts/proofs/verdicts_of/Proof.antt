@@ -1,8 +1,7 @@
 -- `verdicts::verdicts_of`: the tests with the undecided intervals taken either way, and what the two have in common.
 use mathlib.Core.Path.{subst⁻¹}
 use borrow.Author.Needs.{needs}
-use Rattle.verdicts.specs.Verdicts.{agreed}
-use Rattle.verdicts.specs.Figures.{verdictsOf, Fits}
+use Rattle.verdicts.specs.Verdicts.{agreed, verdictsOf, Fits}
 use Rattle.verdicts.proofs.verdicts_of.Statement.{statement}
 use Rattle.verdicts.proofs.verdicts_of.Tie as tie
 
