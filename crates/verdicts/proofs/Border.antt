@@ -22,24 +22,24 @@ use Rattle.tallies.specs.Tally.{Labels, is, counts}
 
 -- what a mark in front does: it settles all that was pending and its own interval, or its interval is pending too
 
-abbrev settling : Bool → Track
+abbrev pub settling : Bool → Track
 settling m = record { label = m; pending = 0 }
 
-abbrev waiting : Track → Track
+abbrev pub waiting : Track → Track
 waiting t = record { label = t .label; pending = t .pending + 1 }
 
-told-settling : (n : ℕ) (t : Track) (m : Bool) (ms : List Bool) → settles n t m ≡ true → told n t (m ∷ ms) ≡ replicate (t .pending + 1) m ++ told n (settling m) ms
+pub told-settling : (n : ℕ) (t : Track) (m : Bool) (ms : List Bool) → settles n t m ≡ true → told n t (m ∷ ms) ≡ replicate (t .pending + 1) m ++ told n (settling m) ms
 unfolding told gain turn
 told-settling n t m ms e = rw e
 
-told-waiting : (n : ℕ) (t : Track) (m : Bool) (ms : List Bool) → settles n t m ≡ false → told n t (m ∷ ms) ≡ told n (waiting t) ms
+pub told-waiting : (n : ℕ) (t : Track) (m : Bool) (ms : List Bool) → settles n t m ≡ false → told n t (m ∷ ms) ≡ told n (waiting t) ms
 unfolding told gain turn
 told-waiting n t m ms e = rw e
 
 settled-length : (p : ℕ) (m : Bool) (xs : List Bool) → length (replicate (p + 1) m ++ xs) ≡ p + 1 + length xs
 settled-length p m xs = length-append (replicate (p + 1) m) xs ∙ ap (λ k. k + length xs) (length-replicate (p + 1) m)
 
-none-told : (n : ℕ) (t : Track) → length (told n t []) ≡ 0
+pub none-told : (n : ℕ) (t : Track) → length (told n t []) ≡ 0
 unfolding told
 none-told n t = refl
 

@@ -1,5 +1,6 @@
 -- The laws of this crate that belong to no one function.
 pub mod Border
+pub mod OneLabel
 pub mod Splitting
 pub mod Taken
 pub mod Judging
