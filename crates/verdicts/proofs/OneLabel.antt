@@ -44,10 +44,13 @@ settled-alike n t (m ∷ ms) = by (settles n t m) refl (settled-alike n (waiting
         (c : Bool) → settles n t m ≡ c → (length (told n (waiting t) ms) ≡ 0) ⊎ ((b : Bool) × ((i : ℕ) → i ≤ t .pending + 1 → getD (told n (waiting t) ms) i false ≡ b)) →
         (length (told n t (m ∷ ms)) ≡ 0) ⊎ ((b : Bool) × ((i : ℕ) → i ≤ t .pending → getD (told n t (m ∷ ms)) i false ≡ b))
     by true e r =
-        inr (m, λ i q.
-          ap (λ xs. getD xs i false) (told-settling n t m ms e)
-          ∙ List·getD-append (replicate (t .pending + 1) m) (told n (settling m) ms) false i (omega (arith, length-replicate (t .pending + 1) m))
-          ∙ getD-replicate (t .pending + 1) i m false (omega arith))
+        inr (
+          m,
+          λ i q.
+              ap (λ xs. getD xs i false) (told-settling n t m ms e)
+              ∙ List·getD-append (replicate (t .pending + 1) m) (told n (settling m) ms) false i (omega (arith, length-replicate (t .pending + 1) m))
+              ∙ getD-replicate (t .pending + 1) i m false (omega arith),
+        )
     by false e (inl r) = inl (ap length (told-waiting n t m ms e) ∙ r)
     by false e (inr (b, r)) = inr (b, λ i q. ap (λ xs. getD xs i false) (told-waiting n t m ms e) ∙ r i (omega arith))
 
@@ -88,12 +91,14 @@ module _ (n : ℕ) (ms : List Bool) (at : ℕ → Label) (some : 1 ≤ n) (L : L
   alike =
       elim (settled-alike n (run n fresh ms) more) [
         | inl e ↦ absurd (omega (arith, enough-told, e))
-        | inr r ↦
-            (r .0, λ i q.
+        | inr r ↦ (
+          r .0,
+          λ i q.
               told-settled n (ms ++ more) some (length passed + i) false (omega (arith, ap length both-told, length-append passed then-told, enough-told)) f longer
               ∙ ap (λ xs. getD xs (length passed + i) false) both-told
               ∙ getD-append-add passed then-told i false
-              ∙ r .1 i (omega arith))
+              ∙ r .1 i (omega arith),
+        )
       ]
 
   -- the labels of a continuation are those known, the undecided ones taken as one b

@@ -112,19 +112,16 @@ fn as_available(r: Period) -> Asked
     requires { ⌜ Fits (takenAs false r) ⌝ }
     ensures { λ a. ⌜ a ≡ takenAs false r ⌝ }
 {
-    let t = r.loss.available;
-    let u = r.loss.undecided;
-    let c = r.composite;
     Asked {
-        available: t.count + u.count,
+        available: r.loss.available.count + r.loss.undecided.count,
         unavailable: r.loss.unavailable,
-        acceptable: c.available + c.undecided,
-        unacceptable: c.unavailable,
-        high: t.high + u.high,
-        runs: t.runs + u.runs,
-        sent: t.sent + u.sent,
-        lost: t.lost + u.lost,
-        sum: t.sum + u.sum,
+        acceptable: r.composite.available + r.composite.undecided,
+        unacceptable: r.composite.unavailable,
+        high: r.loss.available.high + r.loss.undecided.high,
+        runs: r.loss.available.runs + r.loss.undecided.runs,
+        sent: r.loss.available.sent + r.loss.undecided.sent,
+        lost: r.loss.available.lost + r.loss.undecided.lost,
+        sum: r.loss.available.sum + r.loss.undecided.sum,
     }
 }
 
@@ -133,18 +130,16 @@ fn as_unavailable(r: Period) -> Asked
     requires { ⌜ Fits (takenAs true r) ⌝ }
     ensures { λ a. ⌜ a ≡ takenAs true r ⌝ }
 {
-    let t = r.loss.available;
-    let c = r.composite;
     Asked {
-        available: t.count,
+        available: r.loss.available.count,
         unavailable: r.loss.unavailable + r.loss.undecided.count,
-        acceptable: c.available,
-        unacceptable: c.unavailable + c.undecided,
-        high: t.high,
-        runs: t.runs,
-        sent: t.sent,
-        lost: t.lost,
-        sum: t.sum,
+        acceptable: r.composite.available,
+        unacceptable: r.composite.unavailable + r.composite.undecided,
+        high: r.loss.available.high,
+        runs: r.loss.available.runs,
+        sent: r.loss.available.sent,
+        lost: r.loss.available.lost,
+        sum: r.loss.available.sum,
     }
 }
 
