@@ -1,5 +1,5 @@
-// Circuits of some intervals, a letter each: H is sent 10, lost 10, and L is sent 10, lost 0, each frame delivered in 1,000 ns; N sent nothing. A small letter is in
-// maintenance.
+// Circuits of some intervals, a letter each: H is sent 10, lost 10, and L is sent 10, lost 0; E is sent 10, lost 5, and M sent 10, lost 6; each frame delivered in 1,000 ns. N sent
+// nothing. A small letter is in maintenance.
 use crate::lines;
 use numbers::bytes;
 ghost use Prim.Native.Nat.{_<_};
@@ -32,9 +32,11 @@ fn put_lost(record: &mut [u8]) {
     bytes::put_u32(record, 8, 10);
 }
 
-fn put_delivered(record: &mut [u8]) {
+// 10 frames, some of them lost, and the sum of the delays of the others.
+fn put_delivered(record: &mut [u8], lost: u32, sum: u32) {
     bytes::put_u32(record, 4, 10);
-    bytes::put_u32(record, 24, 10_000);
+    bytes::put_u32(record, 8, lost);
+    bytes::put_u32(record, 24, sum);
     bytes::put_u32(record, 32, 1_000);
     bytes::put_u32(record, 36, 1_000);
 }
@@ -42,7 +44,9 @@ fn put_delivered(record: &mut [u8]) {
 fn put_frames(record: &mut [u8], letter: u8) {
     match letter {
         b'H' | b'h' => put_lost(record),
-        b'L' | b'l' => put_delivered(record),
+        b'L' | b'l' => put_delivered(record, 0, 10_000),
+        b'E' | b'e' => put_delivered(record, 5, 5_000),
+        b'M' | b'm' => put_delivered(record, 6, 4_000),
         _ => (),
     }
 }
