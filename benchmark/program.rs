@@ -226,22 +226,35 @@ impl Track {
         }
     }
 
-    /// How many intervals are undecided; the others are in the tallies.
-    fn finish(&mut self, s: &Settings) -> u32 {
+    /// The figures of the undecided intervals; the others are in the tallies.
+    fn finish(&mut self, s: &Settings) -> Figures {
         if self.length >= s.n || self.mark == self.unavailable_now {
             self.shut(s);
-            return 0;
+            return NONE;
         }
-        self.run.count
+        self.end_streak(s.p);
+        self.run
     }
 }
 
-fn verdict(undecided: u32, met: bool) -> &'static str {
-    match (undecided, met) {
-        (0, true) => "met",
-        (0, false) => "not met",
-        _ => "not yet",
-    }
+fn met(
+    o: &[u64; 6],
+    t: &Figures,
+    unavailable: u32,
+    acceptable: u32,
+    unacceptable: u32,
+) -> [bool; 6] {
+    let enough = |objective: u64, good: u32, bad: u32| {
+        good as u64 * 1_000_000 >= objective * (good + bad) as u64
+    };
+    [
+        enough(o[0], t.count, unavailable),
+        enough(o[1], acceptable, unacceptable),
+        t.lost * 1_000_000 <= o[2] * t.sent,
+        t.sum <= o[3] * (t.sent - t.lost),
+        t.high as u64 <= o[4],
+        t.runs as u64 <= o[5],
+    ]
 }
 
 fn refused(number: u32, place: u64) -> String {
@@ -249,38 +262,53 @@ fn refused(number: u32, place: u64) -> String {
 }
 
 fn lines(s: &Settings, count: u32, mut loss: Track, mut composite: Track) -> String {
-    let undecided = loss.finish(s);
-    let undecided_composite = composite.finish(s);
+    let u = loss.finish(s);
+    let undecided = composite.finish(s).count;
     let t = loss.available;
     let least = if t.sent > t.lost { t.least } else { 0 };
-    let served = t.count + loss.unavailable + undecided;
-    let o = s.objectives;
-    let enough = |objective: u64, good: u32, bad: u32| {
-        good as u64 * 1_000_000 >= objective * (good + bad) as u64
+    let served = t.count + loss.unavailable + u.count;
+    let (acceptable, unacceptable) = (composite.available.count, composite.unavailable);
+    let mut all = t;
+    all.join(&u);
+    // the undecided intervals taken as available, and as unavailable
+    let a = met(
+        &s.objectives,
+        &all,
+        loss.unavailable,
+        acceptable + undecided,
+        unacceptable,
+    );
+    let b = met(
+        &s.objectives,
+        &t,
+        loss.unavailable + u.count,
+        acceptable,
+        unacceptable + undecided,
+    );
+    let verdict = |k: usize| match (a[k], b[k]) {
+        (true, true) => "met",
+        (false, false) => "not met",
+        _ => "not yet",
     };
     format!(
-        "length {count} maintenance {}\navailable {} unavailable {} undecided {undecided}\nhigh {} runs {}\nsent {} lost {}\ndelay {} {least} {}\n\
-         composite {} {} {undecided_composite}\navailability {}\ncomposite {}\nloss {}\nmean {}\nhigh {}\nruns {}\n",
+        "length {count} maintenance {}\navailable {} unavailable {} undecided {}\nhigh {} runs {}\nsent {} lost {}\ndelay {} {least} {}\n\
+         composite {acceptable} {unacceptable} {undecided}\navailability {}\ncomposite {}\nloss {}\nmean {}\nhigh {}\nruns {}\n",
         count - served,
         t.count,
         loss.unavailable,
+        u.count,
         t.high,
         t.runs,
         t.sent,
         t.lost,
         t.sum,
         t.most,
-        composite.available.count,
-        composite.unavailable,
-        verdict(undecided, enough(o[0], t.count, loss.unavailable)),
-        verdict(
-            undecided_composite,
-            enough(o[1], composite.available.count, composite.unavailable)
-        ),
-        verdict(undecided, t.lost * 1_000_000 <= o[2] * t.sent),
-        verdict(undecided, t.sum <= o[3] * (t.sent - t.lost)),
-        verdict(undecided, t.high as u64 <= o[4]),
-        verdict(undecided, t.runs as u64 <= o[5]),
+        verdict(0),
+        verdict(1),
+        verdict(2),
+        verdict(3),
+        verdict(4),
+        verdict(5),
     )
 }
 

@@ -118,14 +118,23 @@ fn available((first, last): (u32, u32), p: u32, period: &Track) -> Figures {
     all
 }
 
-/// The fifteen words of a report.
-fn figures(before: &Summary, period: &Summary, after: &Summary) -> [u64; 15] {
+/// The figures of its undecided intervals: they are all in its last run.
+fn undecided((_, last): (u32, u32), p: u32, period: &Track) -> Figures {
+    match period {
+        Track::One(r) | Track::Many(_, _, r) if last == 0 => r.figures(p),
+        _ => Figures::default(),
+    }
+}
+
+/// The fifteen words of a report, and the figures of its undecided intervals.
+#[inline(always)]
+fn figures(before: &Summary, period: &Summary, after: &Summary) -> ([u64; 15], Figures) {
     let Label { n, p, .. } = period.label;
     let given = [0, 1].map(|k| labels(n, &before.tracks[k], &period.tracks[k], &after.tracks[k]));
     let [loss, composite] = [0, 1].map(|k| counts(given[k], &period.tracks[k]));
     let f = available(given[0], p, &period.tracks[0]);
     let length = (period.after - period.first) as u64;
-    [
+    let words = [
         length,
         length - loss.iter().sum::<u64>(),
         loss[0],
@@ -141,11 +150,13 @@ fn figures(before: &Summary, period: &Summary, after: &Summary) -> [u64; 15] {
         composite[0],
         composite[1],
         composite[2],
-    ]
+    ];
+    (words, undecided(given[0], p, &period.tracks[0]))
 }
 
 /// The report of three summaries, the first of which is counted as the one at `base`; or why there is none.
-fn three(wanted: Option<&[u8]>, s: &[u8; THREE], base: usize) -> Result<[u64; 15], u64> {
+#[inline(always)]
+fn three(wanted: Option<&[u8]>, s: &[u8; THREE], base: usize) -> Result<([u64; 15], Figures), u64> {
     let part = |k: usize| -> &[u8; SIZE] { s[k * SIZE..][..SIZE].try_into().unwrap() };
     let read = |k: usize| summaries::read(part(k)).ok_or(refused(5, base + k));
     let (a, b, c) = (read(0)?, read(1)?, read(2)?);
@@ -171,7 +182,7 @@ fn report(s: &[u8], out: &mut [u64]) -> u64 {
         return refused(3, 0);
     }
     match three(None, s, 0) {
-        Ok(words) => {
+        Ok((words, _)) => {
             out[..15].copy_from_slice(&words);
             0
         }
@@ -179,20 +190,47 @@ fn report(s: &[u8], out: &mut [u64]) -> u64 {
     }
 }
 
-/// 0 not met, 1 met, 2 not yet.
-fn judge(objectives: &[u64; 6], r: &[u64; 15]) -> [u64; 6] {
-    let [availability, composite, loss, mean, high, runs] = *objectives;
-    let enough = |objective: u64, good: u64, bad: u64| objective * (good + bad) <= good * 1_000_000;
-    let met = [
-        enough(availability, r[2], r[3]),
-        enough(composite, r[12], r[13]),
-        r[8] * 1_000_000 <= loss * r[7],
-        r[9] <= mean * (r[7] - r[8]),
-        r[5] <= high,
-        r[6] <= runs,
+/// Which objectives are met by the figures that they ask for.
+fn met(objectives: &[u64; 6], loss: [u64; 2], composite: [u64; 2], f: [u64; 5]) -> [bool; 6] {
+    let [
+        availability,
+        least_composite,
+        most_loss,
+        mean,
+        most_high,
+        most_runs,
+    ] = *objectives;
+    let [high, runs, sent, lost, sum] = f;
+    let enough =
+        |objective: u64, [good, bad]: [u64; 2]| objective * (good + bad) <= good * 1_000_000;
+    [
+        enough(availability, loss),
+        enough(least_composite, composite),
+        lost * 1_000_000 <= most_loss * sent,
+        sum <= mean * (sent - lost),
+        high <= most_high,
+        runs <= most_runs,
+    ]
+}
+
+/// 0 not met, 1 met, 2 not yet: the undecided intervals are taken as available, and as unavailable.
+fn judge(objectives: &[u64; 6], r: &[u64; 15], u: &Figures) -> [u64; 6] {
+    let f = [r[5], r[6], r[7], r[8], r[9]];
+    let more = [
+        f[0] + u.high as u64,
+        f[1] + u.runs as u64,
+        f[2] + u.load.sent,
+        f[3] + u.load.lost,
+        f[4] + u.load.sum,
     ];
-    let undecided = [r[4], r[14], r[4], r[4], r[4], r[4]];
-    std::array::from_fn(|k| if undecided[k] != 0 { 2 } else { met[k] as u64 })
+    let a = met(
+        objectives,
+        [r[2] + r[4], r[3]],
+        [r[12] + r[14], r[13]],
+        more,
+    );
+    let b = met(objectives, [r[2], r[3] + r[4]], [r[12], r[13] + r[14]], f);
+    std::array::from_fn(|k| if a[k] == b[k] { a[k] as u64 } else { 2 })
 }
 
 fn verdicts(s: &[u8], pairs: u64, r: &[u8], out: &mut [u64]) -> u64 {
@@ -212,8 +250,8 @@ fn verdicts(s: &[u8], pairs: u64, r: &[u8], out: &mut [u64]) -> u64 {
     let mut all = [1; 6];
     for (k, r) in r.as_chunks::<THREE>().0.iter().enumerate() {
         match three(Some(&s[..24]), r, 3 * k) {
-            Ok(words) => {
-                let one = judge(&objectives, &words);
+            Ok((words, undecided)) => {
+                let one = judge(&objectives, &words, &undecided);
                 for (x, y) in all.iter_mut().zip(one) {
                     *x = if (*x == 0) | (y == 0) { 0 } else { y.max(*x) };
                 }

@@ -5,8 +5,10 @@ use crate::counts::{met, met_each};
 use crate::inputs::*;
 use crate::library::*;
 use crate::random::Random;
+use second::labels::Label;
 use second::records::*;
 use second::refusals::{Answer, FIELD, MISMATCH, ORDER};
+use second::reports::{Report, period_of_three, report_taking};
 use second::summaries::{SUMMARY_BYTES, Summary};
 
 const SIZE: usize = SUMMARY_BYTES;
@@ -528,8 +530,20 @@ pub fn report_case(r: &mut Random, index: u64) -> Result<(), String> {
         })
 }
 
+/// A pair's report, or what it is with its undecided intervals taken as available or as unavailable.
+fn seen_as(r: &mut Random, as_it_is: Report, three: &[Option<Summary>]) -> Report {
+    let label = match r.below(3) {
+        0 => return as_it_is,
+        1 => Label::Available,
+        _ => Label::Unavailable,
+    };
+    let three: Vec<&Summary> = three.iter().flatten().collect();
+    let (known, from, to) = period_of_three(&three);
+    report_taking(&three[0].settings, &known, from, to, label)
+}
+
 /// Objectives at the edge of a pair's figures.
-fn edge_objectives(r: &mut Random, s: &mut [u8], f: &second::reports::Report) {
+fn edge_objectives(r: &mut Random, s: &mut [u8], f: &Report) {
     let near =
         |r: &mut Random, value: u64, most: u64| (value + r.below(3)).saturating_sub(1).min(most);
     let ratio = |part: u64, of: u64| {
@@ -586,7 +600,9 @@ pub fn verdicts_case(r: &mut Random, index: u64) -> Result<(), String> {
     let mut models = models_of(&all);
     if !r.one_in(3) {
         let pair = r.index(pairs as usize);
-        if let Ok(f) = second::reports::report(3 * SIZE, &models[3 * pair..3 * pair + 3], 15) {
+        let three = &models[3 * pair..3 * pair + 3];
+        if let Ok(f) = second::reports::report(3 * SIZE, three, 15) {
+            let f = seen_as(r, f, three);
             edge_objectives(r, &mut s, &f);
         }
     }

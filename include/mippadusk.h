@@ -159,12 +159,13 @@ uint64_t mip_report(const uint8_t *summaries, size_t summaries_len,
  *              1  composite: acceptable * 1,000,000 >= least composite * (acceptable + unacceptable)
  *              2  loss: lost * 1,000,000 <= most loss * sent
  *              3  mean delay: sum of the delays <= most mean delay * (sent - lost)
- *              4  high loss intervals: as many as the most or fewer
- *              5  runs: as many as the most or fewer
- *            A pair's report is asked each of these twice: as it would be with all undecided intervals of the period available (for
- *            the composite, acceptable), and with all of them unavailable (unacceptable). A pair's verdict is met where both say so,
- *            not met where neither does, not yet where one of the two does. So none is not yet where nothing is undecided.
- *            Each is not met where it is not met for a pair, else not yet where it is not yet for a pair, else met.
+ *              4  high loss intervals: high loss intervals <= most high loss intervals
+ *              5  runs: runs <= most runs
+ *            Of each pair this is asked twice: with the intervals of the period that are undecided on the objective's track taken all as
+ *            available, and all as unavailable (for the composite: acceptable, unacceptable). Taken as available they count in every
+ *            figure; mip_report tells no more of them than how many they are. A pair's verdict is met where it is met both times, not
+ *            met where it is met neither time, and not yet where it is met one time only, so never with nothing undecided.
+ *            The set is not met where it is not met for a pair, else not yet where it is not yet for a pair, else met.
  *
  * Refusals, in this order: MIP_SETTINGS; MIP_PAIRS where `pairs` is 0 or above 64; MIP_LENGTH where `summaries` is not pairs * 3,072
  * bytes; MIP_ROOM where `verdicts` is shorter than 6 words; then pair by pair those of mip_report from MIP_FIELD on, summaries counted
