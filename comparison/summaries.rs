@@ -424,11 +424,16 @@ fn damaged_joins(r: &mut Random, whole: &Both, stretches: &[Both]) -> Result<(),
     Ok(())
 }
 
-/// Three adjoining summaries from 0.
+/// Three adjoining summaries from 0. Often nothing is known behind the second, so that its last intervals may be undecided.
 fn three(r: &mut Random, s: &[u8], count: usize) -> Result<Vec<Both>, String> {
     let label = read_settings(s).unwrap().label;
     let intervals = valid_intervals(r, &label, 0, count);
-    cut(r, s, 0, &intervals, 3)
+    if r.one_in(2) {
+        return cut(r, s, 0, &intervals, 3);
+    }
+    let mut all = cut(r, s, 0, &intervals, 2)?;
+    all.push(made(s, count as u64, &[])?);
+    Ok(all)
 }
 
 /// The same stretch under other settings, an empty one where the bytes were broken.
