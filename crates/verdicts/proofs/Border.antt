@@ -1,5 +1,5 @@
--- No run of high loss intervals lies across the border between settled and undecided. The mark that settles the last of the settled intervals is that interval's own, and settles
--- it as it is itself (`last-settled`). So an interval before an undecided one is unavailable, or not high: it is no high loss interval (`none-at-border`), and runs on either
+-- No run of high loss intervals lies across the border between settled and undecided. The last of the settled intervals is settled by its own mark, as that mark says
+-- (`last-settled`): so before an undecided interval stands an unavailable one, or one that is not high. It is no high loss interval (`no-run-across`), and the runs on either
 -- side of the border are whole.
 -- Assumes nothing.
 use mathlib.Core.Path.{_≡_, refl, sym, ap, _∙_}
@@ -8,7 +8,7 @@ use mathlib.Core.Bool.{Bool, true, false, not, _&&_}
 use mathlib.Core.List.{List, [], _∷_, _++_}
 use Prim.Native.Nat.{ℕ, zero, suc, _+_, _≤_, _<_}
 use native.Mathlib.Omega.{arith}
-use native.Mathlib.Nat.{zero-add, add-zero}
+use native.Mathlib.Nat.{zero-add}
 use native.Mathlib.Decide.{decLt}
 use lib.ListN.{length, getD, replicate, length-append, length-replicate, getD-replicate, List·getD-append}
 use lib.Seq.{getD-append-add}

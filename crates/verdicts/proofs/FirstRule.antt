@@ -1,9 +1,9 @@
 -- 01's own rule, which withheld a verdict while its track had undecided intervals, and what 02's keeps of it: with nothing undecided both say the same, what 01's rule said
 -- stands, and "not yet" is said no more often. All three hold because the figures of no undecided intervals are 0, so that the two reports are one.
 -- Assumes nothing.
-use mathlib.Core.Path.{_≡_, refl, sym, ap, _∙_}
+use mathlib.Core.Path.{_≡_, refl, sym, _∙_}
 use mathlib.Core.Logic.{_≢_}
-use mathlib.Core.Bool.{Bool, true, false}
+use mathlib.Core.Bool.{Bool}
 use Prim.Native.Nat.{ℕ, zero, suc, _+_, _-_, _*_}
 use native.Mathlib.Omega.{arith}
 use lib.Dec.{leb}
@@ -13,7 +13,6 @@ use Rattle.tallies.specs.declared.Period.{Period}
 use Rattle.tallies.specs.Bounds.{PeriodBounded}
 use Rattle.verdicts.specs.declared.Met.{Met}
 use Rattle.verdicts.specs.declared.Verdict.{Verdict}
-use Rattle.verdicts.specs.declared.Verdicts.{Verdicts}
 use Rattle.verdicts.specs.Verdicts.{common, enough, lossMet, meanMet, metBy, agreed, asked, takenAs, verdictsOf}
 use Rattle.verdicts.proofs.Fitting.{runs-few, sum-few}
 

@@ -2,7 +2,7 @@
 -- undecided together, is at most the period.
 use mathlib.Core.Path.{refl}
 use mathlib.Core.Bool.{true, false}
-use Prim.Native.Nat.{ℕ, zero, suc, _+_, _-_, _*_, _≤_}
+use Prim.Native.Nat.{ℕ, zero, suc, _-_, _*_, _≤_}
 use native.Mathlib.Omega.{arith}
 use native.Mathlib.Nat.{mul-le-mul}
 use Rattle.numbers.specs.Limits.{intervals, frames, largestDelay}

@@ -1,7 +1,7 @@
 -- Runs of two kinds of intervals that stand side by side. Each interval counts for one kind at most, and where the kind changes the interval before does not count: so no run of
 -- all that counts lies across a change, and the runs, and the number that counts, are those of the two kinds together.
 -- Assumes nothing.
-use mathlib.Core.Path.{_≡_, refl, sym, ap, _∙_}
+use mathlib.Core.Path.{_≡_, refl, sym, _∙_}
 use mathlib.Core.Bool.{Bool, true, false, not, cond, _&&_, _||_, or-false, true≢false}
 use mathlib.Core.List.{List, [], _∷_}
 use Prim.Native.Nat.{ℕ, zero, suc, _+_}

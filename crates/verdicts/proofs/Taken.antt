@@ -1,25 +1,23 @@
 -- The figures of a report, its undecided intervals taken one way by sums, are those of the report by labels that are taken so: counts and sums for any labels, since each interval
 -- is settled or undecided; runs because none lies across the border (Border, Splitting). So the verdicts by figures are those by labels.
 -- Assumes nothing.
-use mathlib.Core.Path.{_≡_, refl, sym, ap, _∙_}
-use mathlib.Core.Bool.{Bool, true, false, not, cond, _&&_, true≢false}
+use mathlib.Core.Path.{_≡_, refl, sym, _∙_}
+use mathlib.Core.Bool.{Bool, true, false, not, cond, _&&_}
 use mathlib.Core.List.{List, [], _∷_, _++_, map, map-append}
 use Prim.Native.Nat.{ℕ, suc, _+_, _≤_, _<_}
 use native.Mathlib.Omega.{arith}
-use native.Mathlib.Nat.{zero-add}
 use lib.ListN.{length, getD, length-append, length-map, List·getD-append}
 use lib.Seq.{getD-append-add}
 use Rattle.settings.specs.declared.LabelSettings.{LabelSettings}
 use Rattle.settings.specs.declared.Settings.{Settings}
 use Rattle.intervals.specs.declared.Interval.{Interval}
-use Rattle.rule.specs.Labels.{Label, settled, undecided, Meaning, Begins}
+use Rattle.rule.specs.Labels.{Label, settled, undecided, Begins}
 use Rattle.rule.proofs.Continuing.{begins-by}
 use Rattle.rule.proofs.Labelling.{undecided-last, meaning-one}
-use Rattle.labels.specs.Marked.{lossMark, compositeMark}
+use Rattle.labels.specs.Marked.{lossMark}
 use Rattle.tallies.specs.declared.Marked.{Marked}
-use Rattle.tallies.specs.declared.Period.{Period}
 use Rattle.tallies.specs.Seen.{markedAs, lossSeen, compositeSeen}
-use Rattle.tallies.specs.Tally.{Labels, is, counts, those, highs, number, runsOf, total, totalled, tally, marks}
+use Rattle.tallies.specs.Tally.{Labels, is, counts, those, highs, number, runsOf, total, totalled, tally}
 use Rattle.tallies.specs.Report.{Labelled, counted, report}
 use Rattle.verdicts.specs.Verdicts.{decided, taken, asked, metBy, agreed, verdictsBy, takenAs, verdictsOf}
 use Rattle.verdicts.proofs.Border.{no-run-across}
@@ -93,7 +91,8 @@ module _
   next-undecided k q e =
       meaning-one n ms (suc k) (at (suc k)) undecided (L (suc k) q) (undecided-last n ms some k (suc k) (omega arith) (rw e at (L k (omega arith))))
 
-  -- the intervals us from k on, high among the available, and among the undecided. a and b: the one before k is the first, is the second; then k is not settled otherwise
+  -- Which of the intervals us, from k on, are high and available, high and undecided, and either. a and b: whether the interval before k is high and available, high and
+  -- undecided; where k is of the other kind, it is not.
 
   abbrev Before : ℕ → Bool → Bool → Type 0
   Before k a b = (k < length ms → at k ≡ undecided → a ≡ false) × (k < length ms → (c : Bool) → at k ≡ settled c → b ≡ false)
@@ -118,7 +117,7 @@ module _
           (other high (f .0 (omega arith) e)
           (r false high ((λ q v. refl), (λ q d v. absurd (undecided-not-settled (sym (next-undecided k q e) ∙ v))))))
 
-  -- the period's
+  -- so of the period, whatever stands before it
   period-split : Splits (length earlier) false false period
   period-split =
       highs-split (length earlier) false false period

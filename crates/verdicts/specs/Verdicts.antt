@@ -93,7 +93,7 @@ asked r =
       sum = r .loss .available .sum;
     }
 
--- the verdicts of a period, whose first interval has the number k
+-- the verdicts of a period, whose first interval has the number k. Labels outside it are in none of its figures
 unfoldable pub verdictsBy : Settings → (ℕ → Label) → (ℕ → Label) → ℕ → List Interval → Verdicts
 verdictsBy v loss composite k period =
     agreed (metBy v (asked (report (v .label) (taken false loss) (taken false composite) k period)))
