@@ -159,13 +159,18 @@ uint64_t mip_report(const uint8_t *summaries, size_t summaries_len,
  *              1  composite: acceptable * 1,000,000 >= least composite * (acceptable + unacceptable)
  *              2  loss: lost * 1,000,000 <= most loss * sent
  *              3  mean delay: sum of the delays <= most mean delay * (sent - lost)
- *              4  high loss intervals: high loss intervals <= most high loss intervals
- *              5  runs: runs <= most runs
- *            Of each pair this is asked twice: with the intervals of the period that are undecided on the objective's track taken all as
- *            available, and all as unavailable (for the composite: acceptable, unacceptable). Taken as available they count in every
- *            figure; mip_report tells no more of them than how many they are. A pair's verdict is met where it is met both times, not
- *            met where it is met neither time, and not yet where it is met one time only, so never with nothing undecided.
- *            The set is not met where it is not met for a pair, else not yet where it is not yet for a pair, else met.
+ *              4  high loss intervals: their number <= most high loss intervals
+ *              5  runs: their number <= most runs
+ *            The objectives are the numbers of 32 bits at bytes 24, 28, 32, 36, 40 and 44 of the settings.
+ *            Of each pair each is asked twice, with those undecided intervals of the period that are not in maintenance taken all as
+ *            available, and all as unavailable: for the composite those that mip_report counts in its word 14, taken as acceptable and as
+ *            unacceptable, for all others those that it counts in its word 4. Taken as available they are in every figure: their frames
+ *            and delays count, and those of high loss (lost * 1,000,000 > C * sent) are high loss intervals and make runs. Taken as
+ *            unavailable they are in the number of these alone. So mip_report tells too little of them to judge loss, mean delay, high
+ *            loss intervals and runs while there are any.
+ *            For a pair each is met where it is met both times, not met where it is met neither time, and else not yet; so with nothing
+ *            undecided it is met or not met. For the set each is not met where it is not met for a pair, else not yet where it is not yet
+ *            for a pair, else met.
  *
  * Refusals, in this order: MIP_SETTINGS; MIP_PAIRS where `pairs` is 0 or above 64; MIP_LENGTH where `summaries` is not pairs * 3,072
  * bytes; MIP_ROOM where `verdicts` is shorter than 6 words; then pair by pair those of mip_report from MIP_FIELD on, summaries counted

@@ -115,8 +115,8 @@ pub fn line(case: &[u8]) {
     show(&s, &three);
 }
 
-// Settings with n = 3, the first three objectives at one half and the mean delay at 1,000 ns, and then one objective at another value.
-fn with_objective(p: u8, at: usize, value: u32) -> [u8; 64] {
+// Settings with n = 3, the first three objectives at one half and the mean delay at 1,000 ns, and then one field at another value.
+fn with_field(p: u8, at: usize, value: u32) -> [u8; 64] {
     let mut s = circuit::settings(3, p);
     bytes::put_u32(&mut s, 24, 500_000);
     bytes::put_u32(&mut s, 28, 500_000);
@@ -126,9 +126,9 @@ fn with_objective(p: u8, at: usize, value: u32) -> [u8; 64] {
     s
 }
 
-// p, an objective's place in settings, letters, the objective's name and its value: the verdicts on all of the intervals.
+// p, a field's place in settings, letters, the field's name and its value: the verdicts on all of the intervals.
 pub fn objective(case: &[u8]) {
-    let s = with_objective(
+    let s = with_field(
         lines::get_u8(case, 1),
         lines::get_usize(case, 2),
         lines::get_u32(case, 5),

@@ -17,12 +17,12 @@ pub fn fifteen_of_seventeen(case: &[u8]) {
     periods_of::verdict_line(&s, b"LLLLHHLLLLLLLLLLL");
 }
 
-// The letters of two pairs.
+// An objective's place in settings, the letters of two pairs, the objective's name and its value; the others are 0.
 pub fn two(case: &[u8]) {
     let mut s = circuit::settings(3, 2);
-    bytes::put_u32(&mut s, 24, 1_000_000);
-    printing::head(lines::rest(case, 1));
-    both(&s, lines::word(case, 1), lines::word(case, 2));
+    bytes::put_u32(&mut s, lines::get_usize(case, 1), lines::get_u32(case, 5));
+    printing::head(lines::rest(case, 2));
+    both(&s, lines::word(case, 2), lines::word(case, 3));
 }
 
 // The verdicts of two pairs, the whole of each one's letters the period.

@@ -55,9 +55,9 @@ file-refused settings s r e = by (settingsOf settings) e
     by SettingsRead.Invalid f = let g : refusal Fault.Settings 0 ≡ r = cc in ap Concluded.Refused g
     by (SettingsRead.Valid v) f = ap (concludedBy (SettingsRead.Valid v)) f
 
--- nothing lies behind it
-behind-nothing : (l : LabelSettings) (vs : List Interval) (loss composite : ℕ → Label) → Labelled l vs loss composite → Labelled l ([] ++ (vs ++ [])) loss composite
-behind-nothing l vs loss composite h = subst (λ xs. Labelled l xs loss composite) (sym (append-nil vs)) h
+-- the intervals of a file as a period with nothing before and nothing behind it
+between-nothing : (l : LabelSettings) (vs : List Interval) (loss composite : ℕ → Label) → Labelled l vs loss composite → Labelled l ([] ++ (vs ++ [])) loss composite
+between-nothing l vs loss composite h = subst (λ xs. Labelled l xs loss composite) (sym (append-nil vs)) h
 
 alone-defined :
     (l : LabelSettings) (vs : List Interval) → 1 ≤ l .n → AllValid vs → (loss composite : ℕ → Label) → Labelled l vs loss composite →
@@ -65,14 +65,14 @@ alone-defined :
 unfolding aloneOf madeOf
 alone-defined l vs some valid loss composite h =
     rw (sym (made-held l 0 []), sym (made-held l 0 vs), sym (made-held l (0 + length vs) []))
-    (period-defined l some [] vs [] valid loss composite (behind-nothing l vs loss composite h))
+    (period-defined l some [] vs [] valid loss composite (between-nothing l vs loss composite h))
 
 answer-defined :
     (v : Settings) (vs : List Interval) → 1 ≤ v .label .n → AllValid vs → (loss composite : ℕ → Label) → Labelled (v .label) vs loss composite →
     answered v (aloneOf (madeOf (v .label) 0 vs)) ≡ definedAnswer v loss composite vs
 answer-defined v vs some valid loss composite h =
     ap (answered v) (alone-defined (v .label) vs some valid loss composite h)
-    ∙ (λ i. record { period = report (v .label) loss composite 0 vs; verdicts = verdicts-taken v [] vs [] loss composite some (behind-nothing (v .label) vs loss composite h) i })
+    ∙ (λ i. record { period = report (v .label) loss composite 0 vs; verdicts = verdicts-taken v [] vs [] loss composite some (between-nothing (v .label) vs loss composite h) i })
 
 -- a file that is not refused: by whatever labels its intervals have, report and verdicts are the definition's
 pub file-defined :

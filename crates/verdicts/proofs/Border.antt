@@ -86,6 +86,9 @@ last-settled n t (m ∷ ms) k d h = by (settles n t m) refl k h (λ j e. last-se
         ∙ ap (λ i. getD (told n (waiting t) ms) i d) place
         ∙ waits k (omega (arith, ap length (told-waiting n t m ms e), h))
 
+pub settled-not-undecided : {b : Bool} → settled b ≡ undecided → ⊥
+settled-not-undecided e = let z : _≡_ {A = ℕ} 0 1 = cc in omega arith
+
 module _ (n : ℕ) (ms : List Bool) (at : ℕ → Label) (some : 1 ≤ n) (L : Labels n ms at) where
   -- where an interval is settled and the next one is not, it is labelled as its own mark says
   border : (i : ℕ) (b : Bool) → suc i < length ms → at i ≡ settled b → at (suc i) ≡ undecided → getD ms i false ≡ b
@@ -97,14 +100,11 @@ module _ (n : ℕ) (ms : List Bool) (at : ℕ → Label) (some : 1 ≤ n) (L : L
         | yes r ↦
             sym (ap (λ k. getD (told n fresh ms) k false) (sym (zero-add i)) ∙ last-settled n fresh ms i false (omega arith))
             ∙ label (meaning-one n ms i (settled (getD (told n fresh ms) i false)) (settled b) (told-settled n ms some i false r) here)
-        | no r ↦ absurd (apart (meaning-one n ms i (settled b) undecided here (pending-undecided n ms some i (omega arith))))
+        | no r ↦ absurd (settled-not-undecided (meaning-one n ms i (settled b) undecided here (pending-undecided n ms some i (omega arith))))
       ]
     where
       label : {a b : Bool} → settled a ≡ settled b → a ≡ b
       label e = cc
-
-      apart : {b : Bool} → settled b ≡ undecided → ⊥
-      apart e = let z : _≡_ {A = ℕ} 0 1 = cc in omega arith
 
   -- the interval before the first undecided one is no high loss interval
   pub no-run-across : (i : ℕ) (x : Marked) → getD ms i false ≡ x .mark → suc i < length ms → (b : Bool) → at i ≡ settled b → at (suc i) ≡ undecided →

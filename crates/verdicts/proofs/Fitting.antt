@@ -1,5 +1,6 @@
 -- Every report that can come out, judged by valid settings, keeps the sums and products in 64 bits, its undecided intervals taken either way: what is counted, settled and
 -- undecided together, is at most the period.
+-- Assumes nothing.
 use mathlib.Core.Path.{refl}
 use mathlib.Core.Bool.{true, false}
 use Prim.Native.Nat.{ℕ, zero, suc, _-_, _*_, _≤_}

@@ -35,7 +35,7 @@ settings weights availability composite loss mean high runs =
       range = 0;
     }
 
--- 10 frames sent, so many lost and so many late, each of the others delivered in so many ns
+-- 10 frames sent, so many lost and so many late, each of the others delivered in so many ns. Its number is in no figure
 abbrev interval : ℕ → ℕ → ℕ → Bool → Interval
 interval lost late delay maintenance =
     record { number = 0; sent = 10; lost = lost; late = late; pairs = 0; jumpy = 0; sum = (10 - lost) * delay; least = delay; most = delay; maintenance = maintenance }
@@ -85,9 +85,11 @@ pub record Lines : Type 0 where
   pub no-run : six (of (settings 1 0 0 1000000 1000 1 0) (L ∷ H ∷ H ∷ L ∷ H ∷ H ∷ [])) ≡ 1 ∷ 1 ∷ 1 ∷ 1 ∷ 0 ∷ 0 ∷ []
   -- three high ones make it unavailable, and two others may end that: 2 of 5, or 0 of 5. At 400,001 it is not met, whatever comes
   pub may-end : six (of (settings 1 400000 400001 0 999 0 0) (H ∷ H ∷ H ∷ L ∷ L ∷ [])) ≡ 2 ∷ 0 ∷ 1 ∷ 2 ∷ 1 ∷ 1 ∷ []
-  -- the composite undecided while the loss track is settled, and the other way round
+  -- the composite undecided while the loss track is settled, and the other way round: 4 of 4, or 2 of 4; 12 lost of 40, or 0 of 20
   pub composite-alone : six (of (settings 2 1000000 500001 0 4000001 0 0) (L ∷ L ∷ F ∷ F ∷ [])) ≡ 1 ∷ 2 ∷ 1 ∷ 1 ∷ 1 ∷ 1 ∷ []
-  pub loss-alone : six (of (settings 2 500001 1000000 0 1000 0 0) (L ∷ L ∷ G ∷ G ∷ [])) ≡ 2 ∷ 1 ∷ 2 ∷ 1 ∷ 2 ∷ 2 ∷ []
+  pub composite-met : six (of (settings 2 1000000 500000 0 4000001 0 0) (L ∷ L ∷ F ∷ F ∷ [])) ≡ 1 ∷ 1 ∷ 1 ∷ 1 ∷ 1 ∷ 1 ∷ []
+  pub loss-alone : six (of (settings 2 500001 1000000 299999 1000 1 0) (L ∷ L ∷ G ∷ G ∷ [])) ≡ 2 ∷ 1 ∷ 2 ∷ 1 ∷ 2 ∷ 2 ∷ []
+  pub loss-met : six (of (settings 2 500000 1000000 300000 1000 2 1) (L ∷ L ∷ G ∷ G ∷ [])) ≡ 1 ∷ 1 ∷ 1 ∷ 1 ∷ 1 ∷ 1 ∷ []
   -- all undecided ones in maintenance, and nothing but such: W is 2, and 0
   pub maintained : six (of (settings 1 1000000 1000000 0 1000 0 0) (L ∷ L ∷ R ∷ R ∷ [])) ≡ 1 ∷ 1 ∷ 1 ∷ 1 ∷ 1 ∷ 1 ∷ []
   pub nothing-else : six (of (settings 1 1000000 1000000 0 0 0 0) (R ∷ R ∷ [])) ≡ 1 ∷ 1 ∷ 1 ∷ 1 ∷ 1 ∷ 1 ∷ []
@@ -96,6 +98,9 @@ pub record Lines : Type 0 where
   -- a set in which 01's own rule said "not yet" for one pair
   pub in-a-set :
       six (ofSets (of (settings 1 750000 750001 250000 1000 1 0) (L ∷ L ∷ L ∷ []) ∷ of (settings 1 750000 750001 250000 1000 1 0) (L ∷ L ∷ L ∷ H ∷ []) ∷ [])) ≡ 1 ∷ 2 ∷ 1 ∷ 1 ∷ 1 ∷ 1 ∷ []
+  -- two pairs that turn opposite ways: 10 lost of 20, or 0 of 10; and 10 of 30, or 10 of 20. Turned together one of them is not met, but each may still be met
+  pub opposite :
+      six (ofSets (of (settings 1 0 0 400000 1000 9 9) (L ∷ H ∷ []) ∷ of (settings 1 0 0 400000 1000 9 9) (H ∷ L ∷ H ∷ H ∷ H ∷ L ∷ []) ∷ [])) ≡ 1 ∷ 1 ∷ 2 ∷ 1 ∷ 1 ∷ 1 ∷ []
 
 pub lines : Lines
 unfolding
@@ -113,9 +118,12 @@ lines =
       no-run = refl;
       may-end = refl;
       composite-alone = refl;
+      composite-met = refl;
       loss-alone = refl;
+      loss-met = refl;
       maintained = refl;
       nothing-else = refl;
       all-undecided = refl;
       in-a-set = refl;
+      opposite = refl;
     }

@@ -1,5 +1,5 @@
--- The undecided intervals of a track all take one label, as 02 says: whatever comes, one mark settles all that are pending, and settles them as it is itself. So the labels of every
--- continuation are those known, the undecided ones taken all as one, and the two ways in which a verdict is asked are all there are.
+-- The undecided intervals of a track all take one label, as 02 says: whatever comes, one mark settles all that are pending, and settles them as it is itself. So on each track the
+-- labels of every continuation are those known, the undecided ones taken all as one of the two.
 -- Assumes nothing.
 use mathlib.Core.Path.{_≡_, refl, sym, ap, _∙_}
 use mathlib.Core.Logic.{_⊎_, inl, inr}

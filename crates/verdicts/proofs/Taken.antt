@@ -20,11 +20,10 @@ use Rattle.tallies.specs.Seen.{markedAs, lossSeen, compositeSeen}
 use Rattle.tallies.specs.Tally.{Labels, is, counts, those, highs, number, runsOf, total, totalled, tally}
 use Rattle.tallies.specs.Report.{Labelled, counted, report}
 use Rattle.verdicts.specs.Verdicts.{decided, taken, asked, metBy, agreed, verdictsBy, takenAs, verdictsOf}
-use Rattle.verdicts.proofs.Border.{no-run-across}
+use Rattle.verdicts.proofs.Border.{settled-not-undecided, no-run-across}
 use Rattle.verdicts.proofs.Splitting.{Split, done, one, other, number-split, runs-split}
 
--- taken one way, no more are labelled the other way
-
+-- labels that agree on `want` count the same among those labelled so
 same-counted :
     (want : Label) (a b : ℕ → Label) → ((i : ℕ) → is want (a i) ≡ is want (b i)) → (k : ℕ) (xs : List Marked) →
     (those want a k xs ≡ those want b k xs) × (highs want a k xs ≡ highs want b k xs)
@@ -32,11 +31,12 @@ unfolding those highs counts
 same-counted want a b h k [] = (refl, refl)
 same-counted want a b h k (x ∷ xs) = let r = same-counted want a b h (suc k) xs in (rw (h k, r .0), rw (h k, r .1))
 
-apart : (b : Bool) (x : Label) → is (settled b) (decided (not b) x) ≡ is (settled b) x
+-- taken one way, no more are labelled the other way
+other-way : (b : Bool) (x : Label) → is (settled b) (decided (not b) x) ≡ is (settled b) x
 unfolding is decided
-apart b (settled a) = refl
-apart true undecided = refl
-apart false undecided = refl
+other-way b (settled a) = refl
+other-way true undecided = refl
+other-way false undecided = refl
 
 -- the sum of a figure over those taken as b: over those that are b, and over the undecided
 total-taken :
@@ -73,9 +73,6 @@ count-taken :
     length (those (settled b) (taken b at) k xs) ≡ length (those (settled b) at k xs) + length (those undecided at k xs)
 count-taken b at k xs =
     rw (length-total (those (settled b) (taken b at) k xs), length-total (those (settled b) at k xs), length-total (those undecided at k xs)) (total-taken (λ x. 1) b at k xs)
-
-undecided-not-settled : {d : Bool} → undecided ≡ settled d → ⊥
-undecided-not-settled e = let z : _≡_ {A = ℕ} 0 1 = cc in omega arith
 
 -- One track, on which m marks each interval, and the period among all that is known.
 module _
@@ -115,7 +112,7 @@ module _
           let high = counts undecided undecided (markedAs (m u) u) && m u in
           rw e
           (other high (f .0 (omega arith) e)
-          (r false high ((λ q v. refl), (λ q d v. absurd (undecided-not-settled (sym (next-undecided k q e) ∙ v))))))
+          (r false high ((λ q v. refl), (λ q d v. absurd (settled-not-undecided (sym v ∙ next-undecided k q e))))))
 
   -- so of the period, whatever stands before it
   period-split : Splits (length earlier) false false period
@@ -149,9 +146,9 @@ module _
       λ i.
       record {
         available = sym (count-taken false loss k xs) i;
-        unavailable = length (sym (same-counted (settled true) (taken false loss) loss (λ j. apart true (loss j)) k xs .0) i);
+        unavailable = length (sym (same-counted (settled true) (taken false loss) loss (λ j. other-way true (loss j)) k xs .0) i);
         acceptable = sym (count-taken false composite k ys) i;
-        unacceptable = length (sym (same-counted (settled true) (taken false composite) composite (λ j. apart true (composite j)) k ys .0) i);
+        unacceptable = length (sym (same-counted (settled true) (taken false composite) composite (λ j. other-way true (composite j)) k ys .0) i);
         high = sym (number-split split) i;
         runs = sym (runs-split (l .p) split) i;
         sent = sym (total-taken (λ x. x .sent) false loss k xs) i;
@@ -159,12 +156,12 @@ module _
         sum = sym (total-taken (λ x. x .sum) false loss k xs) i;
       }
   taken-defined true =
-      let same = same-counted (settled false) (taken true loss) loss (λ j. apart false (loss j)) k xs in
+      let same = same-counted (settled false) (taken true loss) loss (λ j. other-way false (loss j)) k xs in
       λ i.
       record {
         available = length (sym (same .0) i);
         unavailable = sym (count-taken true loss k xs) i;
-        acceptable = length (sym (same-counted (settled false) (taken true composite) composite (λ j. apart false (composite j)) k ys .0) i);
+        acceptable = length (sym (same-counted (settled false) (taken true composite) composite (λ j. other-way false (composite j)) k ys .0) i);
         unacceptable = sym (count-taken true composite k ys) i;
         high = number (sym (same .1) i);
         runs = runsOf (l .p) (sym (same .1) i);

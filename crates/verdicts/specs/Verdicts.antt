@@ -12,7 +12,7 @@ use Rattle.rule.specs.Labels.{Label, settled, undecided}
 use Rattle.tallies.specs.declared.Period.{Period}
 use Rattle.tallies.specs.Report.{report}
 use Rattle.verdicts.specs.declared.Asked.{Asked}
-use Rattle.verdicts.specs.declared.Met.{Met}
+use Rattle.verdicts.specs.declared.Tested.{Tested}
 use Rattle.verdicts.specs.declared.Verdict.{Verdict}
 use Rattle.verdicts.specs.declared.Verdicts.{Verdicts}
 
@@ -37,7 +37,7 @@ unfoldable pub meanMet : ℕ → Asked → Bool
 meanMet objective a = leb (a .sum) (objective * (a .sent - a .lost))
 
 -- the six
-unfoldable pub metBy : Settings → Asked → Met
+unfoldable pub metBy : Settings → Asked → Tested
 metBy v a =
     record {
       availability = enough (v .availability) (a .available) (a .unavailable);
@@ -56,7 +56,7 @@ common false true = Verdict.NotYet
 common false false = Verdict.NotMet
 
 -- the six
-unfoldable pub agreed : Met → Met → Verdicts
+unfoldable pub agreed : Tested → Tested → Verdicts
 agreed a b =
     record {
       availability = common (a .availability) (b .availability);

@@ -30,7 +30,7 @@ pub struct Asked {
 }
 
 // Which objectives are met.
-pub struct Met {
+pub struct Tested {
     pub availability: bool,
     pub composite: bool,
     pub loss: bool,
@@ -64,10 +64,11 @@ pub fn number(v: Verdict) -> u64
 fn verdict_of(a: bool, b: bool) -> Verdict
     ensures { λ r. ⌜ r ≡ common a b ⌝ }
 {
-    if a != b {
-        return Verdict::NotYet;
+    if a {
+        if b { Verdict::Met } else { Verdict::NotYet }
+    } else {
+        if b { Verdict::NotYet } else { Verdict::NotMet }
     }
-    if a { Verdict::Met } else { Verdict::NotMet }
 }
 
 // Whether the good ones are so many parts per million of all.
@@ -93,11 +94,11 @@ fn mean_met(objective: u32, a: Asked) -> bool
 }
 
 // Which objectives are met by these figures.
-fn met_by(v: Settings, a: Asked) -> Met
+fn met_by(v: Settings, a: Asked) -> Tested
     requires { ⌜ Objectives v × Fits a ⌝ }
     ensures { λ r. ⌜ r ≡ metBy v a ⌝ }
 {
-    Met {
+    Tested {
         availability: is_enough(v.availability, a.available, a.unavailable),
         composite: is_enough(v.composite, a.acceptable, a.unacceptable),
         loss: loss_met(v.loss, a),
