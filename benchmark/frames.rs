@@ -103,7 +103,7 @@ fn frames(r: &mut Random, count: u64, lost: u64) -> Vec<u8> {
     all
 }
 
-const CALLS: usize = 200;
+const CALLS: usize = 800;
 
 pub fn rows(measure: &mut dyn FnMut(&Row)) {
     let s = inputs::settings(999_000);
@@ -117,7 +117,7 @@ pub fn rows(measure: &mut dyn FnMut(&Row)) {
             }
         };
         measure(&Row {
-            name: format!("mip_interval, 4,096 frames, {name}"),
+            name: format!("mip_interval, 1,024 frames, {name}"),
             items: ("call", CALLS),
             leaves: (48, 1),
             library: Box::new(|out| calls(library::interval, out)),
@@ -131,7 +131,7 @@ pub fn compare() {
     let mut r = Random(4);
     for round in 0..50_000 {
         let count = if round < 20 {
-            4_096 + round % 2
+            FRAMES as u64 + round % 2
         } else {
             1 + r.below(20) as u64
         };

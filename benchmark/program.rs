@@ -8,6 +8,8 @@ use std::process::{Command, Stdio};
 
 const ROUNDS: usize = 15;
 const RECORDS: u32 = 3_000_000;
+const FRAMES: u32 = 1_024;
+const LARGEST: u32 = 4_000_000_000;
 
 // The plain program.
 
@@ -26,7 +28,6 @@ struct Settings {
 
 fn read_settings(s: &[u8]) -> Option<Settings> {
     const MILLION: u32 = 1_000_000;
-    const DELAY: u32 = 1_000_000_000;
     if s.len() != 64 {
         return None;
     }
@@ -39,7 +40,7 @@ fn read_settings(s: &[u8]) -> Option<Settings> {
         && s[7] == 0
         && (1..MILLION).contains(&word(8))
         && (1..MILLION).contains(&word(12))
-        && [16, 20, 36, 52, 56].iter().all(|at| word(*at) <= DELAY)
+        && [16, 20, 36, 52, 56].iter().all(|at| word(*at) <= LARGEST)
         && [24, 28, 32].iter().all(|at| word(*at) <= MILLION)
         && (p != 0 || word(44) == 0)
         && (1..=MILLION).contains(&word(48))
@@ -85,7 +86,7 @@ fn read_interval(s: &[u8; 48]) -> Option<(u32, Interval)> {
     let last = u64::from_le_bytes(s[40..48].try_into().unwrap());
     let delivered = v.sent.wrapping_sub(v.lost);
     let counts = (number < RECORDS)
-        & (v.sent <= 4_096)
+        & (v.sent <= FRAMES)
         & (v.lost <= v.sent)
         & (v.late <= delivered)
         & (v.jumpy <= v.pairs)
@@ -96,7 +97,7 @@ fn read_interval(s: &[u8; 48]) -> Option<(u32, Interval)> {
     let delays = if delivered == 0 {
         (v.sum == 0) & (v.least == 0) & (v.most == 0)
     } else {
-        (v.least <= v.most) & (v.most <= 1_000_000_000) & (low <= v.sum) & (v.sum <= high)
+        (v.least <= v.most) & (v.most <= LARGEST) & (low <= v.sum) & (v.sum <= high)
     };
     (counts & delays).then_some((number, v))
 }

@@ -1,8 +1,8 @@
 //! The records of docs/RECORDS.md in plain Rust: read with every rule, without a branch until the verdict.
 
 pub const INTERVALS: u32 = 3_000_000;
-pub const FRAMES: u32 = 4_096;
-pub const LARGEST: u32 = 1_000_000_000;
+pub const FRAMES: u32 = 1_024;
+pub const LARGEST: u32 = 4_000_000_000;
 const MILLION: u32 = 1_000_000;
 
 /// A refusal as one word.

@@ -4,8 +4,23 @@ use crate::library::*;
 use crate::random::Random;
 use second::records::*;
 
+/// Delays that are as far apart as can be, in turn.
+fn farthest(frames: &mut [u8]) {
+    for (k, frame) in frames.chunks_mut(16).enumerate() {
+        if frame[12] == 0 {
+            put(frame, 8, k as u64 % 2 * LARGEST_DELAY);
+        }
+    }
+}
+
 pub fn case(r: &mut Random, index: u64) -> Result<(), String> {
-    let valid = valid_settings(r);
+    let mut valid = valid_settings(r);
+    match index {
+        // both sides of the farthest
+        14 => put(&mut valid, 20, LARGEST_DELAY - 1),
+        15 => put(&mut valid, 20, LARGEST_DELAY),
+        _ => (),
+    }
     let label = read_settings(&valid).unwrap().label;
     let number = match r.below(8) {
         0 => r.pick(&[0, INTERVALS - 1]),
@@ -13,14 +28,18 @@ pub fn case(r: &mut Random, index: u64) -> Result<(), String> {
         _ => r.below(50),
     };
     let count = match index {
-        10 => 4_095,
-        11 => 4_096,
-        12 => 4_097,
+        10 => FRAMES as usize - 1,
+        11 => FRAMES as usize,
+        12 => FRAMES as usize + 1,
+        14 | 15 => FRAMES as usize,
         13 => 5_000,
-        _ if r.one_in(10) => r.from_to(4_090, 4_103) as usize,
+        _ if r.one_in(10) => r.from_to(FRAMES - 6, FRAMES + 7) as usize,
         _ => some_count(r, 600),
     };
     let mut frames = valid_frames(r, &label, number, count);
+    if let 14 | 15 = index {
+        farthest(&mut frames);
+    }
     let mut s = valid;
     let mut asked = number;
     let mut maintenance = r.below(2);

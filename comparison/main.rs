@@ -1,11 +1,13 @@
 //! The library against the second program, on many inputs: `./compare [SECONDS [SEED [OPERATION CASE]]]` builds and runs it.
 //! The time is split evenly among the operations. A case is made from the seed, the operation's name and the
 //! case's number alone, so a case that fails can be run again by itself. A run in which an answer or a refusal was met too rarely fails
-//! too (`counts`).
+//! too (`counts`). Behind the operations come cases that are the same for each seed.
 mod counts;
 mod delays;
 mod evaluator;
 mod exports;
+mod former;
+mod fullest;
 mod inputs;
 mod interval;
 mod labels;
@@ -42,6 +44,12 @@ fn operations() -> Vec<Operation> {
         .map(|(name, least, case)| Operation { name, least, case })
         .collect()
 }
+
+/// What is the same for each seed.
+const FIXED: [(&str, fn() -> Result<(), String>); 2] = [
+    ("a whole circuit of the fullest intervals", fullest::case),
+    ("records of the former limits", former::case),
+];
 
 /// Runs one case; a difference ends the program.
 fn run(operation: &Operation, seed: u64, index: u64) {
@@ -95,6 +103,13 @@ fn main() {
             start.elapsed().as_secs_f64(),
         );
         missed.extend(lines);
+    }
+    for (name, case) in FIXED {
+        if let Err(fault) = case() {
+            println!("{name} DIFFERS: {fault}");
+            std::process::exit(1);
+        }
+        println!("{name}: the same");
     }
     for line in &missed {
         println!("{line}");

@@ -11,7 +11,7 @@ use second::refusals::{Answer, FIELD, MISMATCH, ORDER};
 use second::reports::{Report, period_of_three, report_taking};
 use second::summaries::{SUMMARY_BYTES, Summary};
 
-const SIZE: usize = SUMMARY_BYTES;
+pub const SIZE: usize = SUMMARY_BYTES;
 
 /// A summary as the library's bytes and as what made it; none where the bytes break a rule.
 #[derive(Clone)]
@@ -22,26 +22,32 @@ struct Both {
 }
 
 /// The library's bytes of a summary.
-fn made(s: &[u8], first: u64, intervals: &[Interval]) -> Result<Both, String> {
+pub fn stretch(s: &[u8], first: u64, records: &[u8]) -> Result<Vec<u8>, String> {
     let mut bytes = vec![0xa5; SIZE];
-    let records = written(intervals);
-    let got = summary(s, first, &records, &mut bytes, 0);
-    let settings = read_settings(s).expect("valid settings").label;
-    let model = Summary {
-        settings,
-        first,
-        intervals: intervals.to_vec(),
-    };
+    let got = summary(s, first, records, &mut bytes, 0);
     same_beside(got, &Ok(())).map_err(|fault| {
         format!(
             "{fault}\nsummary of settings {} first {first} intervals {}",
             hex(s),
-            hex(&records)
+            hex(records)
         )
     })?;
+    Ok(bytes)
+}
+
+/// What a summary is made of.
+pub fn model(s: &[u8], first: u64, intervals: &[Interval]) -> Summary {
+    Summary {
+        settings: read_settings(s).expect("valid settings").label,
+        first,
+        intervals: intervals.to_vec(),
+    }
+}
+
+fn made(s: &[u8], first: u64, intervals: &[Interval]) -> Result<Both, String> {
     Ok(Both {
-        bytes,
-        model: Some(model),
+        bytes: stretch(s, first, &written(intervals))?,
+        model: Some(model(s, first, intervals)),
         settings: s.to_vec(),
     })
 }
@@ -156,7 +162,7 @@ fn count_place<T>(answer: &Answer<T>) {
 }
 
 /// Joins, where both are valid, of equal settings and adjoining.
-fn joined(left: &[u8], right: &[u8]) -> Result<Vec<u8>, String> {
+pub fn joined(left: &[u8], right: &[u8]) -> Result<Vec<u8>, String> {
     let mut bytes = vec![0x5a; SIZE];
     let got = join(left, right, &mut bytes, 0);
     same_word(got, &Ok(()))
@@ -585,6 +591,26 @@ fn edge_objectives(r: &mut Random, s: &mut [u8], f: &Report) {
         near(r, f.runs, u32::MAX as u64)
     };
     put(s, 44, runs);
+}
+
+/// The report and the verdicts of one pair, which are the second program's.
+pub fn answers(
+    s: &[u8],
+    three: &[u8],
+    models: &[Option<Summary>],
+) -> Result<([u64; 15], [u64; 6]), String> {
+    let (mut figures, mut six) = ([7; 15], [7; 6]);
+    let reported = second::reports::report(three.len(), models, 15).map(|f| f.words());
+    same_beside(report(three, &mut figures), &reported)?;
+    let judged = second::verdicts::verdicts(s, 1, three.len(), models, 6);
+    let judged = judged.map(|v| v.map(|x| x.word()));
+    same_beside(verdicts(s, 1, three, &mut six), &judged)?;
+    if reported != Ok(figures) || judged != Ok(six) {
+        return Err(format!(
+            "the library reports {figures:?} and {six:?}, the second program {reported:?} and {judged:?}"
+        ));
+    }
+    Ok((figures, six))
 }
 
 pub fn verdicts_case(r: &mut Random, index: u64) -> Result<(), String> {

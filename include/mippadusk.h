@@ -7,6 +7,10 @@
  * the first faulty record, counted from 0, and 0 where no record is at fault. A refusal writes nothing. No other input is asked of
  * the caller: each function takes any bytes, words and numbers, and either answers or refuses.
  *
+ * A delay is at most 4,000,000,000 ns, in a frame, an interval and a list, and as DL, Jt, most mean delay, most delay and most range: it
+ * fits uint32_t but not int32_t, and two of them added up do not fit 32 bits. A frame that comes later than that is recorded as lost. An
+ * interval has at most 1,024 frames. A sum of delays fits uint64_t but not int64_t.
+ *
  * No function allocates, keeps what it was lent, or has state of its own. They use up to 256 KiB of the caller's stack. */
 #ifndef MIPPADUSK_H
 #define MIPPADUSK_H
@@ -35,14 +39,14 @@ extern "C" {
 /* From the frames of one interval to its record.
  *
  * settings     a settings record, 64 bytes; the length of an interval, DL and Jt are taken from it
- * frames       frame records of 16 bytes each, at most 4,096, in strictly increasing time; none is fine
+ * frames       frame records of 16 bytes each, at most 1,024, in strictly increasing time; none is fine
  * number       the interval's number, below 3,000,000: a frame belongs to it when number * length <= time < (number + 1) * length
  * maintenance  0 or 1
  * out, at      the interval record is written into the 48 bytes of `out` from byte `at` on; the bytes before and behind stay as
  *              they are
  *
  * Refusals, in this order: MIP_SETTINGS; MIP_LENGTH where `frames` is not a whole number of records; MIP_ROOM where `out` has fewer
- * than 48 bytes from `at` on; MIP_FULL over 4,096 frames; MIP_FIELD for the number or for maintenance; then frame by frame, at its
+ * than 48 bytes from `at` on; MIP_FULL over 1,024 frames; MIP_FIELD for the number or for maintenance; then frame by frame, at its
  * place, MIP_FIELD where it breaks its own rules, MIP_OUTSIDE where its time is not in the interval, MIP_ORDER where its time is
  * not later than that of the frame before. */
 uint64_t mip_interval(const uint8_t *settings, size_t settings_len,
@@ -118,7 +122,9 @@ uint64_t mip_summary(const uint8_t *settings, size_t settings_len,
  * either end changes nothing.
  *
  * left, right  valid summaries, 1,024 bytes each, of equal label settings; `right` begins where `left` ends. A summary is valid where it
- *              meets the rules of docs/RECORDS.md, as every one does that mip_summary or mip_join wrote
+ *              meets the rules of docs/RECORDS.md, as every one does that mip_summary or mip_join wrote. One that was written when
+ *              an interval could have 4,096 frames means what it meant, unless it tells of more than 1,024 for an interval: then
+ *              it is not valid
  * out, at      the summary of both is written into the 1,024 bytes of `out` from byte `at` on; the bytes before and behind stay as
  *              they are
  *
@@ -183,7 +189,7 @@ uint64_t mip_verdicts(const uint8_t *settings, size_t settings_len,
 /* Percentile delay and range of a list of delays, in ns, in any order. The list is read and stays as it is.
  *
  * settings   a settings record, 64 bytes; Pr, most delay and most range are taken from it
- * delays     at most 1,000,000 delays, each at most 1,000,000,000 ns; none is fine
+ * delays     at most 1,000,000 delays, each at most 4,000,000,000 ns; none is fine
  * answers    room for 4 words or more; words behind the fourth stay as they are:
  *              0  the percentile: the least listed delay d with Pr * N <= 1,000,000 * (number of listed delays <= d), 0 with none
  *              1  the range: the percentile less the least delay, 0 with none
@@ -191,7 +197,7 @@ uint64_t mip_verdicts(const uint8_t *settings, size_t settings_len,
  *              3  1 where the range is at or below the most range, else 0
  *
  * Refusals, in this order: MIP_SETTINGS; MIP_ROOM where `answers` is shorter than 4 words; MIP_FULL over 1,000,000 delays; MIP_FIELD
- * at the first delay above 1,000,000,000. */
+ * at the first delay above 4,000,000,000. */
 uint64_t mip_delays(const uint8_t *settings, size_t settings_len,
                     const uint32_t *delays, size_t delays_len,
                     uint64_t *answers, size_t answers_len);

@@ -60,7 +60,8 @@ fn good(s: &Settings) -> bool {
 }
 
 /// An interval for each letter, small ones in maintenance, numbered from `first`. A delay of 5,000,000 is late, one of 1,000 is not.
-/// High loss are H, F and B. With weights 1 the composite goes along with the loss; with weights 2 its high ones are H, B and C.
+/// High loss are H, F and B. With weights 1 the composite goes along with the loss; with weights 2 its high ones are H, B, C and G.
+/// G has the most frames with the largest delay.
 fn stretch(first: u64, text: &str) -> Vec<Interval> {
     let one = |(k, letter): (usize, char)| {
         let (sent, lost, delay) = match letter.to_ascii_uppercase() {
@@ -70,6 +71,7 @@ fn stretch(first: u64, text: &str) -> Vec<Interval> {
             'B' => (10, 6, 5_000_000),
             'C' => (10, 0, 5_000_000),
             'E' => (10, 5, 1_000),
+            'G' => (1_024, 0, 4_000_000_000),
             'Z' => (0, 0, 0),
             _ => panic!("no such letter"),
         };
@@ -477,17 +479,17 @@ fn settings_rules() {
         (|s| &mut s.label.weights, &[1, 7], &[0, 8]),
         (|s| &mut s.label.c, &[1, 999_999], &[0, 1_000_000]),
         (|s| &mut s.label.u, &[1, 999_999], &[0, 1_000_000]),
-        (|s| &mut s.label.dl, &[0, 1_000_000_000], &[1_000_000_001]),
-        (|s| &mut s.label.jt, &[0, 1_000_000_000], &[1_000_000_001]),
+        (|s| &mut s.label.dl, &[0, 1_000_000_001, 4_000_000_000], &[4_000_000_001, 4_294_967_295]),
+        (|s| &mut s.label.jt, &[0, 1_000_000_001, 4_000_000_000], &[4_000_000_001, 4_294_967_295]),
         (|s| &mut s.least_availability, &[0, 1_000_000], &[1_000_001]),
         (|s| &mut s.least_composite, &[0, 1_000_000], &[1_000_001]),
         (|s| &mut s.most_loss, &[0, 1_000_000], &[1_000_001]),
-        (|s| &mut s.most_mean, &[0, 1_000_000_000], &[1_000_000_001]),
+        (|s| &mut s.most_mean, &[0, 1_000_000_001, 4_000_000_000], &[4_000_000_001, 4_294_967_295]),
         (|s| &mut s.most_high, &[0, 4_294_967_295], &[]),
         (|s| &mut s.most_runs, &[0, 4_294_967_295], &[]),
         (|s| &mut s.percentile, &[1, 1_000_000], &[0, 1_000_001]),
-        (|s| &mut s.most_delay, &[0, 1_000_000_000], &[1_000_000_001]),
-        (|s| &mut s.most_range, &[0, 1_000_000_000], &[1_000_000_001]),
+        (|s| &mut s.most_delay, &[0, 1_000_000_001, 4_000_000_000], &[4_000_000_001, 4_294_967_295]),
+        (|s| &mut s.most_range, &[0, 1_000_000_001, 4_000_000_000], &[4_000_000_001, 4_294_967_295]),
     ];
     for (field, yes, no) in cases {
         for (values, expected) in [(yes, true), (no, false)] {
@@ -519,9 +521,13 @@ fn settings_rules() {
 
 #[test]
 fn frame_rules() {
-    assert_eq!(read_frame(&frame(u64::MAX, 1_000_000_000, 0)), Some(Frame { time: u64::MAX, delay: 1_000_000_000, lost: false }));
+    for delay in [1_000_000_001, 4_000_000_000] {
+        assert_eq!(read_frame(&frame(u64::MAX, delay, 0)), Some(Frame { time: u64::MAX, delay, lost: false }));
+    }
     assert_eq!(read_frame(&frame(5, 0, 1)), Some(Frame { time: 5, delay: 0, lost: true }));
-    assert!(read_frame(&frame(0, 1_000_000_001, 0)).is_none());
+    assert!(read_frame(&frame(0, 4_000_000_001, 0)).is_none());
+    assert!(read_frame(&frame(0, 4_294_967_295, 0)).is_none());
+    assert!(read_frame(&frame(0, 4_000_000_000, 1)).is_none());
     assert!(read_frame(&frame(0, 1, 1)).is_none());
     assert!(read_frame(&frame(0, 0, 2)).is_none());
     for at in 13..16 {
@@ -535,8 +541,8 @@ fn frame_rules() {
 fn interval_rules() {
     let i = Interval {
         number: 2_999_999,
-        sent: 4_096,
-        lost: 4_086,
+        sent: 1_024,
+        lost: 1_014,
         late: 10,
         pairs: 9,
         jumpy: 9,
@@ -552,7 +558,9 @@ fn interval_rules() {
     };
     assert!(valid(i));
     assert!(!valid(Interval { number: 3_000_000, ..i }));
-    assert!(!valid(Interval { sent: 4_097, ..i }));
+    for sent in [1_025, 1_026, 2_048, 4_095, 4_096, 4_097, 4_294_967_295] {
+        assert!(!valid(Interval { sent, lost: sent - 10, ..i }));
+    }
     assert!(!valid(Interval { late: 11, ..i }));
     assert!(!valid(Interval { pairs: 10, ..i }));
     assert!(!valid(Interval { pairs: 8, ..i }));
@@ -561,13 +569,29 @@ fn interval_rules() {
     assert!(valid(Interval { sum: 51, most: 6, ..i }));
     assert!(valid(Interval { sum: 49, least: 4, ..i }));
     assert!(!valid(Interval { least: 6, sum: 60, ..i }));
-    let huge = Interval { least: 1_000_000_000, most: 1_000_000_000, sum: 10_000_000_000, ..i };
+    assert!(valid(Interval { least: 1_000_000_001, most: 1_000_000_001, sum: 10_000_000_010, ..i }));
+    let huge = Interval { least: 4_000_000_000, most: 4_000_000_000, sum: 40_000_000_000, ..i };
     assert!(valid(huge));
-    assert!(!valid(Interval { most: 1_000_000_001, ..huge }));
+    assert!(!valid(Interval { most: 4_000_000_001, ..huge }));
+    assert!(!valid(Interval { most: 4_294_967_295, ..huge }));
+    assert!(!valid(Interval { least: 4_000_000_001, most: 4_000_000_001, sum: 40_000_000_010, ..huge }));
     assert!(!valid(Interval { sum: u64::MAX, ..huge }));
-    let none = Interval { lost: 4_096, late: 0, pairs: 0, jumpy: 0, sum: 0, least: 0, most: 0, ..i };
+    // The largest sum.
+    let full = Interval { lost: 0, late: 1_024, pairs: 1_023, jumpy: 1_023, sum: 4_096_000_000_000, ..huge };
+    assert!(valid(full));
+    assert!(!valid(Interval { sum: 4_096_000_000_001, ..full }));
+    assert!(!valid(Interval { sum: 4_096_000_000_001, least: 0, ..full }));
+    assert!(!valid(Interval { sum: 4_095_999_999_999, ..full }));
+    assert!(valid(Interval { sum: 4_095_999_999_999, least: 3_999_999_999, ..full }));
+    assert!(!valid(Interval { late: 1_025, ..full }));
+    assert!(!valid(Interval { pairs: 1_024, ..full }));
+    assert!(!valid(Interval { sent: 1_025, sum: 4_100_000_000_000, ..full }));
+    // The same sum within the former limits.
+    assert!(!valid(Interval { sent: 4_096, least: 1_000_000_000, most: 1_000_000_000, ..full }));
+    let none = Interval { lost: 1_024, late: 0, pairs: 0, jumpy: 0, sum: 0, least: 0, most: 0, ..i };
     assert!(valid(none));
-    assert!(!valid(Interval { sent: 4_095, ..none }));
+    assert!(!valid(Interval { sent: 1_023, ..none }));
+    assert!(!valid(Interval { sent: 1_025, lost: 1_025, ..none }));
     assert!(!valid(Interval { late: 1, ..none }));
     assert!(!valid(Interval { pairs: 1, ..none }));
     assert!(!valid(Interval { most: 1, ..none }));
@@ -589,9 +613,10 @@ fn interval_refusals() {
     let ask = |f: &[u8], number, maintenance, room, at| interval(&b, f, number, maintenance, room, at);
     assert_eq!(refused(interval(&b[..63], &[0], 3_000_000, 2, 0, 1)), (SETTINGS, 0));
     assert_eq!(refused(ask(&[0], 3_000_000, 2, 0, 1)), (LENGTH, 0));
-    let many: Vec<u8> = (0..4_097).flat_map(|k| frame(k, 0, 1)).collect();
+    let many: Vec<u8> = (0..1_025).flat_map(|k| frame(k, 0, 1)).collect();
     assert_eq!(refused(ask(&many, 3_000_000, 2, 47, 0)), (ROOM, 0));
     assert_eq!(refused(ask(&many, 3_000_000, 2, 48, 0)), (FULL, 0));
+    assert_eq!(refused(ask(&vec![9; 16 * 4_096], 0, 0, 48, 0)), (FULL, 0));
     assert!(ask(&many[16..], 0, 0, 48, 0).is_ok());
     assert_eq!(refused(ask(&[9; 16], 3_000_000, 0, 48, 0)), (FIELD, 0));
     assert_eq!(refused(ask(&frame(0, 0, 0), 0, 2, 48, 0)), (FIELD, 0));
@@ -647,12 +672,20 @@ fn evaluator_refusals() {
     assert_eq!(refused(step_words(&mut words, &stretch(1, "H")[0].write(), 4)), (ORDER, 0));
     assert_eq!(refused(step_words(&mut words, &[9; 48], 4)), (FIELD, 0));
     assert_eq!(words, before);
-    for (at, value) in [(0, 99), (1, 65), (2, 1), (2, 3), (3, 8), (4, 0), (5, 1_000_000), (6, 1_000_000_001), (9, 2), (9, 0), (10, 1), (11, 0), (12, 1)] {
+    let delays = [(6, 4_000_000_001), (7, 4_000_000_001), (6, 1 << 32), (7, u64::MAX)];
+    let others = [(0, 99), (1, 65), (2, 1), (2, 3), (3, 8), (4, 0), (5, 1_000_000), (9, 2), (9, 0), (10, 1), (11, 0), (12, 1)];
+    for &(at, value) in delays.iter().chain(&others) {
         let mut bad = before;
         bad[at] = value;
         let kept = bad;
         assert_eq!(refused(step_words(&mut bad, &stretch(1, "H")[0].write(), 4)), (FIELD, 0), "{at}");
         assert_eq!(bad, kept);
+    }
+    for (at, value) in [(6, 1_000_000_001), (7, 1_000_000_001), (6, 4_000_000_000), (7, 4_000_000_000)] {
+        let mut fine = before;
+        fine[at] = value;
+        assert_eq!(step_words(&mut fine, &record, 4), Ok([0, 2, 0, 2]));
+        assert_eq!(fine[at], value);
     }
     assert_eq!(refused(step(&mut None, &record[1..])), (LENGTH, 0));
     assert_eq!(refused(step(&mut None, &record)), (FIELD, 0));
@@ -768,13 +801,14 @@ fn verdict_refusals() {
 #[test]
 fn delay_refusals() {
     let b = bytes(&base());
-    let many = vec![1_000_000_001; 1_000_001];
+    let many = vec![4_000_000_001; 1_000_001];
     assert_eq!(refused(delays(&b[1..], &many, 3)), (SETTINGS, 0));
     assert_eq!(refused(delays(&b, &many, 3)), (ROOM, 0));
     assert_eq!(refused(delays(&b, &many, 4)), (FULL, 0));
     assert_eq!(refused(delays(&b, &many[1..], 4)), (FIELD, 0));
-    assert_eq!(refused(delays(&b, &[1_000_000_000, 5, 1_000_000_001, 1_000_000_002], 4)), (FIELD, 2));
-    assert!(delays(&b, &vec![1_000_000_000; 1_000_000], 4).is_ok());
+    assert_eq!(refused(delays(&b, &[4_000_000_000, 5, 4_000_000_001, 4_000_000_002], 4)), (FIELD, 2));
+    assert_eq!(refused(delays(&b, &[1_000_000_001, 4_294_967_295], 4)), (FIELD, 1));
+    assert!(delays(&b, &vec![4_000_000_000; 1_000_000], 4).is_ok());
 }
 
 // Reports and verdicts.
@@ -1184,6 +1218,107 @@ fn sets() {
     // The same with the mean: 2,500,500 or 1,000, and 50,020,000 / 30 = 1,667,333.3 or 5,000,000.
     let cases = [(1_667_333, NO), (1_667_334, WAIT), (2_500_499, WAIT), (2_500_500, WAIT), (4_999_999, WAIT), (5_000_000, MET)];
     set(&["LHHHC", "CHHHLL"], MEAN, &cases);
+}
+
+// Wish 6: delays up to 4,000,000,000 and 1,024 frames in an interval.
+
+const LARGEST: u64 = 4_000_000_000;
+
+#[test]
+fn largest_frames() {
+    let mut s = base();
+    let of = |s: &Settings, delay: &dyn Fn(u64) -> u64| {
+        let frames: Vec<u8> = (0..1_024).flat_map(|k| frame(k, delay(k), 0)).collect();
+        interval(&bytes(s), &frames, 0, 0, 48, 0).map(|out| read_interval(&out).unwrap())
+    };
+    let i = of(&s, &|_| LARGEST).unwrap();
+    assert_eq!((i.sent, i.lost, i.late, i.pairs, i.jumpy), (1_024, 0, 1_024, 1_023, 0));
+    assert_eq!((i.sum, i.least, i.most), (4_096_000_000_000, LARGEST, LARGEST));
+    assert_eq!(refused(of(&s, &|k| LARGEST + k / 1_023)), (FIELD, 1_023));
+    let i = of(&s, &|_| 1_000_000_001).unwrap();
+    assert_eq!((i.sum, i.least, i.most), (1_024_000_001_024, 1_000_000_001, 1_000_000_001));
+    // 0 and the largest in turn, from either on: both sides of DL and of Jt.
+    for first in 0..2 {
+        for (limit, late, jumpy) in [(0, 512, 1_023), (LARGEST - 1, 512, 1_023), (LARGEST, 0, 0)] {
+            s.label.dl = limit;
+            s.label.jt = limit;
+            let i = of(&s, &|k| (first + k) % 2 * LARGEST).unwrap();
+            assert_eq!((i.late, i.pairs, i.jumpy), (late, 1_023, jumpy));
+            assert_eq!((i.sum, i.least, i.most), (2_048_000_000_000, 0, LARGEST));
+        }
+    }
+}
+
+#[test]
+fn largest_lists() {
+    let mut s = base();
+    let mut ask = |list: &[u32], pr, most_delay, most_range| {
+        s.percentile = pr;
+        s.most_delay = most_delay;
+        s.most_range = most_range;
+        delays(&bytes(&s), list, 4).unwrap().words()
+    };
+    let most = LARGEST as u32;
+    assert_eq!(ask(&[most, 0], 500_000, 0, 0), [0, 0, 1, 1]);
+    assert_eq!(ask(&[most, 0], 500_001, LARGEST, LARGEST), [LARGEST, LARGEST, 1, 1]);
+    assert_eq!(ask(&[0, most], 1_000_000, LARGEST - 1, LARGEST), [LARGEST, LARGEST, 0, 1]);
+    assert_eq!(ask(&[0, most], 1_000_000, LARGEST, LARGEST - 1), [LARGEST, LARGEST, 1, 0]);
+    assert_eq!(ask(&[most, most], 1, LARGEST - 1, 0), [LARGEST, 0, 0, 1]);
+    assert_eq!(ask(&[1, most], 1_000_000, LARGEST, LARGEST - 1), [LARGEST, LARGEST - 1, 1, 1]);
+    assert_eq!(ask(&[1_000_000_001, most, 0], 666_666, 1_000_000_001, 1_000_000_000), [1_000_000_001, 1_000_000_001, 1, 0]);
+    assert_eq!(ask(&[1_000_000_001, most, 0], 666_667, LARGEST, LARGEST), [LARGEST, LARGEST, 1, 1]);
+    let mut many = vec![most; 1_000_000];
+    many[500_000..].fill(0);
+    assert_eq!(ask(&many, 500_000, 0, 0), [0, 0, 1, 1]);
+    assert_eq!(ask(&many, 500_001, LARGEST, LARGEST), [LARGEST, LARGEST, 1, 1]);
+}
+
+#[test]
+fn largest_means() {
+    let s = base();
+    at(&s, "G", MEAN, &[(0, NO), (1_000_000_001, NO), (LARGEST - 1, NO), (LARGEST, MET)]);
+    at(&s, "GGgG", MEAN, &[(LARGEST - 1, NO), (LARGEST, MET)]);
+    // 4,096,000,010,000 / 1,034 = 3,961,315,290.1.
+    at(&s, "GL", MEAN, &[(3_961_315_290, NO), (3_961_315_291, MET)]);
+    // The largest, or none.
+    at(&s, "HHHG", MEAN, &[(0, WAIT), (LARGEST - 1, WAIT), (LARGEST, MET)]);
+    assert_eq!(whole_period(&s, "GLG").words(), [3, 0, 3, 0, 0, 0, 0, 2_058, 0, 8_192_000_010_000, 1_000, LARGEST, 3, 0, 0]);
+}
+
+#[test]
+fn largest_period() {
+    let mut s = with_n(1, 0);
+    let known = vec![stretch(0, "G")[0]; 3_000_000];
+    let r = report_of(&s.label, &known, 0, known.len());
+    assert_eq!((r.available, r.sent, r.sum), (3_000_000, 3_072_000_000, 12_288_000_000_000_000_000));
+    s.most_mean = LARGEST;
+    assert!(met(&s, &r)[MEAN]);
+    s.most_mean = LARGEST - 1;
+    assert!(!met(&s, &r)[MEAN]);
+}
+
+#[test]
+fn records_of_the_former_limits() {
+    // The second of three has 1,025 to 4,096 sent: refused wherever records are read, and not as FULL.
+    let s = base();
+    for sent in [1_024, 1_025, 4_096] {
+        let mut three = stretch(0, "LLL");
+        three[1] = Interval { sent, sum: 1_000 * sent, ..three[1] };
+        let file = written(&three);
+        let mut evaluator = Some(start(&bytes(&s), 13).unwrap());
+        step(&mut evaluator, &file[..48]).unwrap();
+        let stepped = step(&mut evaluator, &file[48..96]).map(|_| ());
+        let labelled = labels(&bytes(&s), &file, 6, 0).map(|_| ());
+        let summed = summary(&bytes(&s), 0, &file, 1_024, 0).map(|_| ());
+        let printed = evaluate(Some(bytes(&s)), Some(file));
+        if sent == 1_024 {
+            assert_eq!((stepped, labelled, summed), (Ok(()), Ok(()), Ok(())));
+            assert!(printed.contains("sent 1044 lost 0\n"));
+        } else {
+            assert_eq!((refused(stepped), refused(labelled), refused(summed)), ((FIELD, 0), (FIELD, 1), (FIELD, 1)));
+            assert_eq!(printed, "refused 5 1\n");
+        }
+    }
 }
 
 // Wish 3 in full for small n.

@@ -1,8 +1,8 @@
 //! The records of fixed size, settings, frames and intervals: read from bytes, or None where a rule of theirs is broken.
 
 pub const INTERVALS: u64 = 3_000_000;
-pub const FRAMES: u64 = 4_096;
-pub const LARGEST_DELAY: u64 = 1_000_000_000;
+pub const FRAMES: u64 = 1_024;
+pub const LARGEST_DELAY: u64 = 4_000_000_000;
 pub const MILLION: u64 = 1_000_000;
 
 fn byte(s: &[u8], at: usize) -> u64 {

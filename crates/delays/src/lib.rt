@@ -89,7 +89,7 @@ fn judge(v: Settings, list: &[u32]) -> Outcome
 }
 
 // The percentile delay and the range of a list of delays, or the refusal: SETTINGS; FULL over 1,000,000 delays; FIELD at the
-// first delay above 1,000,000,000 ns.
+// first delay above the largest.
 pub fn delays(settings: &[u8], list: &[u32]) -> Outcome
     ensures { λ r. ⌜ r ≡ outcome (now (settings .entry)) (now (list .entry)) ⌝ }
 {

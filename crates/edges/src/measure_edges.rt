@@ -7,7 +7,7 @@ use numbers::bytes;
 use numbers::many;
 
 // Room for one frame more than an interval takes.
-const ROOM: usize = 65_552;
+const ROOM: usize = 16_400;
 
 // The settings of document 01's lines: DL 4 ms, Jt 2 ms, intervals of 60,000 ms.
 fn settings() -> [u8; 64] {
@@ -20,7 +20,7 @@ fn settings() -> [u8; 64] {
 }
 
 fn put_frame(frames: &mut [u8], k: usize, time: u64, delay: u32, state: u8) {
-    if k < 4_097 {
+    if k < 1_025 {
         let at = 16 * k;
         bytes::put_u64(frames, at, time);
         bytes::put_u32(frames, at + 8, delay);
@@ -43,8 +43,8 @@ pub fn add(b: [u8; 128], case: &[u8]) -> [u8; 128] {
 
 // As many frames as there is room for, a nanosecond apart, each with the largest delay.
 fn put_all(frames: &mut [u8]) {
-    for k in 0..4_097 {
-        put_frame(frames, k, k as u64, 1_000_000_000, 0);
+    for k in 0..1_025 {
+        put_frame(frames, k, k as u64, 4_000_000_000, 0);
     }
 }
 

@@ -25,3 +25,8 @@ million-fits = omega arith
 pub interval-sum-fits : largestDelay * frames < 2 ^ 64
 unfolding largestDelay frames
 interval-sum-fits = omega arith
+
+-- a delay for each frame of a whole circuit: a sum of delays, and what a mean is held against
+pub circuit-sum-fits : largestDelay * (intervals * frames) < 2 ^ 64
+unfolding intervals frames largestDelay
+circuit-sum-fits = omega arith

@@ -7,11 +7,11 @@ intervals = 3000000
 
 -- frames in one interval, at most
 unfoldable pub frames : ℕ
-frames = 4096
+frames = 1024
 
 -- the largest delay, in ns
 unfoldable pub largestDelay : ℕ
-largestDelay = 1000000000
+largestDelay = 4000000000
 
 -- delays in a lent list, at most
 unfoldable pub delays : ℕ

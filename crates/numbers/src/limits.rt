@@ -3,9 +3,9 @@
 // Intervals of a circuit: a number is below it.
 pub const INTERVALS: u32 = 3_000_000;
 // Frames in one interval, at most.
-pub const FRAMES: u32 = 4_096;
+pub const FRAMES: u32 = 1_024;
 // The largest delay, in ns.
-pub const LARGEST_DELAY: u32 = 1_000_000_000;
+pub const LARGEST_DELAY: u32 = 4_000_000_000;
 // Delays in a lent list, at most.
 pub const DELAYS: usize = 1_000_000;
 // Ordered pairs in a set, at most.

@@ -14,6 +14,7 @@ use tracks::Track;
 ghost use mathlib.Core.Path.{_≡_};
 ghost use mathlib.Core.Bool.{cond};
 ghost use Prim.Native.Nat.{_-_, _*_, _≤_};
+ghost use Rattle.numbers.specs.Limits.{intervals, frames, largestDelay};
 ghost use Rattle.runs.specs.Runs.{one};
 ghost use Rattle.tracks.specs.Valid.{busy};
 ghost use Rattle.tallies.specs.Seen.{markedAs};
@@ -35,7 +36,7 @@ fn product(a: u32, b: u32) -> u64
 
 // A delay for each of a number of frames, both no more than there can be.
 fn delays(a: u32, b: u64) -> u64
-    requires { ⌜ (a ≤ 1000000000) × (b ≤ 12288000000) ⌝ }
+    requires { ⌜ (a ≤ largestDelay) × (b ≤ intervals * frames) ⌝ }
     ensures { λ r. ⌜ r ≡ a * b ⌝ }
 {
     (a as u64) * b

@@ -3,14 +3,14 @@ use borrow.Author.Needs.{needs}
 use Prim.Native.Nat.{_*_}
 use native.Mathlib.Omega.{arith}
 use Rattle.numbers.specs.Limits.{intervals, frames, largestDelay}
+use Rattle.numbers.proofs.Bounds.{circuit-sum-fits}
 use Rattle.rule.proofs.Products.{product-below}
 use Rattle.verdicts.specs.Verdicts.{meanMet}
 use Rattle.verdicts.proofs.mean_met.Statement.{statement}
 use Rattle.verdicts.proofs.mean_met.Tie as tie
 
 mul-result : tie.Need-mul-result
-unfolding intervals frames largestDelay
-mul-result c = record { fits = product-below largestDelay (intervals * frames) (search needs) (omega arith) (omega arith) }
+mul-result c = record { fits = product-below largestDelay (intervals * frames) (search needs) (omega arith) circuit-sum-fits }
 
 returns : tie.Need-returns
 unfolding meanMet

@@ -11,7 +11,7 @@ abbrev Inv-loop : tie.InvT-loop
 Inv-loop frames₀ k₀ frames k = length frames ≡ length frames₀
 
 abbrev μ-loop : tie.MeasureT-loop
-μ-loop frames₀ k₀ frames k = 4097 - k
+μ-loop frames₀ k₀ frames k = 1025 - k
 
 loop-holds : tie.Need-loop-holds Inv-loop μ-loop
 loop-holds c = search needs
