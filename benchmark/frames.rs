@@ -84,8 +84,8 @@ fn plain(s: &[u8], r: &[u8], number: u64, maintenance: u64, out: &mut [u8], at: 
     0
 }
 
-/// Frames of interval 5 in increasing time; one in so many is lost.
-fn frames(r: &mut Random, count: u64, lost: u64) -> Vec<u8> {
+/// Frames of interval 5 in increasing time, with delays from 1 ms on over `span` ns; one in so many is lost.
+fn frames(r: &mut Random, count: u64, lost: u64, span: u64) -> Vec<u8> {
     let mut all = Vec::new();
     for k in 0..count {
         let time =
@@ -94,7 +94,7 @@ fn frames(r: &mut Random, count: u64, lost: u64) -> Vec<u8> {
         let delay = if state == 1 {
             0
         } else {
-            1_000_000 + r.below(6_000_000)
+            1_000_000 + r.below(span)
         };
         all.extend(time.to_le_bytes());
         all.extend(delay.to_le_bytes());
@@ -109,7 +109,7 @@ pub fn rows(measure: &mut dyn FnMut(&Row)) {
     let s = inputs::settings(999_000);
     let mut r = Random(3);
     for (name, lost) in [("1 in 1,000 lost", 1_000), ("half of them lost", 2)] {
-        let f = frames(&mut r, FRAMES as u64, lost);
+        let f = frames(&mut r, FRAMES as u64, lost, 6_000_000);
         type Call = fn(&[u8], &[u8], u64, u64, &mut [u8], usize) -> u64;
         let calls = |call: Call, out: &mut Out| {
             for _ in 0..CALLS {
@@ -135,7 +135,8 @@ pub fn compare() {
         } else {
             1 + r.below(20) as u64
         };
-        let mut f = frames(&mut r, count, 3);
+        let span = [6_000_000, LARGEST as u64 - 999_999][r.below(2) as usize];
+        let mut f = frames(&mut r, count, 3, span);
         let mut s = inputs::settings(999_000);
         inputs::damage(&mut r, &mut f);
         if r.one_in(8) {

@@ -1,15 +1,16 @@
 //! Speed of the program on 3,000,000 intervals with the page cache warm, against plain Rust that reads the same file the same way, checks the same rules and
 //! prints the same lines, and against `cat` and `wc -c` of the file: `./bench-program` builds and runs it. Every way is a process of its own; a time is its
 //! processor time, the kernel's for it included, so that other work on the machine disturbs it less.
+#[allow(dead_code)]
+mod records;
+
+use records::{FRAMES, INTERVALS as RECORDS, LARGEST};
 use std::fs::{self, File};
 use std::io::Read;
 use std::path::Path;
 use std::process::{Command, Stdio};
 
 const ROUNDS: usize = 15;
-const RECORDS: u32 = 3_000_000;
-const FRAMES: u32 = 1_024;
-const LARGEST: u32 = 4_000_000_000;
 
 // The plain program.
 

@@ -13,7 +13,9 @@ type Bounds = &'static [(&'static str, &'static [(u64, u64)])];
 /// By operation, all that it can answer, with the numbers of refusals that include/mippadusk.h names. "5 at" and the like are refusals of
 /// summaries by place: 0 to 2 in the first pair, 3 to 5 for the same places in a later one. The cases that run whatever the time meet
 /// each value about four times as often, so that no seed misses a bound.
-const BOUNDS: [(&str, Bounds); 9] = [
+const BOUNDS: [(&str, Bounds); 11] = [
+    ("fullest", &[("answered", &[(0, 6)])]),
+    ("former", &[("answered", &[(0, 5)])]),
     (
         "mip_interval",
         &[

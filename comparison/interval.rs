@@ -4,19 +4,18 @@ use crate::library::*;
 use crate::random::Random;
 use second::records::*;
 
-/// Delays that are as far apart as can be, in turn.
+/// All frames delivered, with delays as far apart as can be, in turn.
 fn farthest(frames: &mut [u8]) {
     for (k, frame) in frames.chunks_mut(16).enumerate() {
-        if frame[12] == 0 {
-            put(frame, 8, k as u64 % 2 * LARGEST_DELAY);
-        }
+        put(frame, 8, k as u64 % 2 * LARGEST_DELAY);
+        frame[12] = 0;
     }
 }
 
 pub fn case(r: &mut Random, index: u64) -> Result<(), String> {
     let mut valid = valid_settings(r);
     match index {
-        // both sides of the farthest
+        // delays that are as far apart as can be differ by more than Jt, and do not
         14 => put(&mut valid, 20, LARGEST_DELAY - 1),
         15 => put(&mut valid, 20, LARGEST_DELAY),
         _ => (),
@@ -31,8 +30,8 @@ pub fn case(r: &mut Random, index: u64) -> Result<(), String> {
         10 => FRAMES as usize - 1,
         11 => FRAMES as usize,
         12 => FRAMES as usize + 1,
-        14 | 15 => FRAMES as usize,
         13 => 5_000,
+        14 | 15 => FRAMES as usize,
         _ if r.one_in(10) => r.from_to(FRAMES - 6, FRAMES + 7) as usize,
         _ => some_count(r, 600),
     };

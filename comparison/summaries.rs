@@ -171,7 +171,7 @@ pub fn joined(left: &[u8], right: &[u8]) -> Result<Vec<u8>, String> {
 }
 
 /// Whether the library takes the bytes for a summary: joined with an empty one behind it, it is not refused for a field.
-fn taken(bytes: &[u8]) -> bool {
+pub fn taken(bytes: &[u8]) -> bool {
     let after = word_at(bytes, 4);
     let mut s = vec![0; 64];
     s[..24].copy_from_slice(&bytes[8..32]);

@@ -8,8 +8,9 @@
  * the caller: each function takes any bytes, words and numbers, and either answers or refuses.
  *
  * A delay is at most 4,000,000,000 ns, in a frame, an interval and a list, and as DL, Jt, most mean delay, most delay and most range: it
- * fits uint32_t but not int32_t, and two of them added up do not fit 32 bits. A frame that comes later than that is recorded as lost. An
- * interval has at most 1,024 frames. A sum of delays fits uint64_t but not int64_t.
+ * fits uint32_t but not int32_t, and the sum of two may not fit 32 bits. Whoever records frames records one that comes later as lost. An
+ * interval has at most 1,024 frames. The sum of a period's delays fits uint64_t, and may not fit int64_t. A record beyond these limits breaks
+ * its own rules and is refused, also one that was written when an interval could have 4,096 frames.
  *
  * No function allocates, keeps what it was lent, or has state of its own. They use up to 256 KiB of the caller's stack. */
 #ifndef MIPPADUSK_H
@@ -123,8 +124,8 @@ uint64_t mip_summary(const uint8_t *settings, size_t settings_len,
  *
  * left, right  valid summaries, 1,024 bytes each, of equal label settings; `right` begins where `left` ends. A summary is valid where it
  *              meets the rules of docs/RECORDS.md, as every one does that mip_summary or mip_join wrote. One that was written when
- *              an interval could have 4,096 frames means what it meant, unless it tells of more than 1,024 for an interval: then
- *              it is not valid
+ *              an interval could have 4,096 frames is valid, and means what it meant, where the first run of each of its tracks,
+ *              the last one and what lies between have at most 1,024 frames for each interval that they count
  * out, at      the summary of both is written into the 1,024 bytes of `out` from byte `at` on; the bytes before and behind stay as
  *              they are
  *

@@ -1,16 +1,15 @@
--- What a load says depends on no limit. Its bytes hold the least delay; only its value holds a headroom, reckoned from the largest delay. By the least
--- delay a limit is the bound of one field and stands in no other rule (`by-least`, `by-headroom`). So a load that met the rules under other limits, and has
--- no more frames for an interval than there may be now, meets those of now (`limits-widened`); and the least delay of two loads together is the lesser
--- one, whatever the largest delay (`lesser-kept`).
+-- What a load says goes by no limit. Its bytes hold the least delay; only its value holds a headroom, reckoned from the largest delay. By the least delay a
+-- limit is an upper bound, of the most delay and of the frames sent, and stands in no other rule (`by-least`, `by-headroom`). So a load that met the
+-- rules under any other limits meets those that stand, where it is within the two bounds (`other-limits`). And the least delay of two loads together
+-- is told from theirs alone (`lesser-of-both`, `other-of-both`). No proof here looks at the number of a limit.
 -- Assumes nothing.
-use mathlib.Core.Path.{_≡_}
-use Prim.Native.Nat.{ℕ, _-_, _*_, _≤_, _<_, max, min}
+use mathlib.Core.Path.{_≡_, _∙_}
+use Prim.Native.Nat.{ℕ, _-_, _*_, _≤_, _<_, min}
 use native.Mathlib.Omega.{arith}
-use native.Mathlib.Nat.{le-trans}
 use native.Mathlib.Decide.{decLt}
 use Rattle.numbers.specs.Limits.{frames, largestDelay}
 use Rattle.runs.specs.declared.figures.Load.{Load}
-use Rattle.runs.specs.Figures.{turned}
+use Rattle.runs.specs.Figures.{turned, both}
 use Rattle.runs.specs.Valid.{LoadValid}
 use Rattle.runs.proofs.Headroom.{turned-heard, turned-silent}
 
@@ -86,20 +85,38 @@ module _ (l : Load) (least : ℕ) (held : l .headroom ≡ turned (l .sent) (l .l
             to = v .to;
           }
 
-  -- what met the rules under other limits meets those of now, where it has no more frames for an interval and the largest delay was no larger
-  pub limits-widened : (each largest : ℕ) → ByLeast each largest l least → l .sent ≤ frames * l .count → largest ≤ largestDelay → LoadValid l
-  limits-widened each largest v few wider =
+  -- what met the rules under other limits meets those that stand, where it is within their two bounds
+  pub other-limits : (each largest : ℕ) → ByLeast each largest l least → l .sent ≤ frames * l .count → l .most ≤ largestDelay → LoadValid l
+  other-limits each largest v few within =
       by-headroom
       (record {
         few = few;
         lost-of-sent = v .lost-of-sent;
         silent = v .silent;
-        within = le-trans (v .within) wider;
+        within = within;
         ordered = v .ordered;
         from = v .from;
         to = v .to;
       })
 
--- headrooms join by `max`, and so the least delays by `min`
-pub lesser-kept : (largest x y : ℕ) → x ≤ largest → y ≤ largest → largest - max (largest - x) (largest - y) ≡ min x y
-lesser-kept largest x y p q = omega arith
+-- the least delay that a load is reported with
+abbrev leastOf : Load → ℕ
+leastOf l = turned (l .sent) (l .lost) (l .headroom)
+
+-- two loads that hold the headrooms of these least delays
+module _ (a b : Load) (x y : ℕ) (x-held : a .headroom ≡ turned (a .sent) (a .lost) x) (y-held : b .headroom ≡ turned (b .sent) (b .lost) y) (x-small : x ≤ largestDelay) (y-small : y ≤ largestDelay) where
+  -- where both have delivered frames, the lesser
+  pub lesser-of-both : a .lost < a .sent → b .lost < b .sent → leastOf (both a b) ≡ min x y
+  unfolding both
+  lesser-of-both p q =
+      let x-turned : a .headroom ≡ largestDelay - x = x-held ∙ turned-heard (a .sent) (a .lost) x p in
+      let y-turned : b .headroom ≡ largestDelay - y = y-held ∙ turned-heard (b .sent) (b .lost) y q in
+      turned-heard _ _ _ (omega arith) ∙ omega arith
+
+  -- where one has none, the other's; `both` is the same the other way round
+  pub other-of-both : a .sent ≡ a .lost → x ≡ 0 → b .lost < b .sent → leastOf (both a b) ≡ y
+  unfolding both
+  other-of-both p none q =
+      let x-turned : a .headroom ≡ x = x-held ∙ turned-silent (a .sent) (a .lost) x p in
+      let y-turned : b .headroom ≡ largestDelay - y = y-held ∙ turned-heard (b .sent) (b .lost) y q in
+      turned-heard _ _ _ (omega arith) ∙ omega arith
