@@ -123,9 +123,9 @@ uint64_t mip_summary(const uint8_t *settings, size_t settings_len,
  * either end changes nothing.
  *
  * left, right  valid summaries, 1,024 bytes each, of equal label settings; `right` begins where `left` ends. A summary is valid where it
- *              meets the rules of docs/RECORDS.md, as every one does that mip_summary or mip_join wrote. One that was written when
- *              an interval could have 4,096 frames is valid, and means what it meant, where the first run of each of its tracks,
- *              the last one and what lies between have at most 1,024 frames for each interval that they count
+ *              meets the rules of docs/RECORDS.md, as every one does that mip_summary or mip_join writes. One that was written when
+ *              an interval could have 4,096 frames is valid, and means what it meant, where each load in it (docs/RECORDS.md) has at
+ *              most 1,024 frames for each interval that it counts
  * out, at      the summary of both is written into the 1,024 bytes of `out` from byte `at` on; the bytes before and behind stay as
  *              they are
  *
