@@ -1,4 +1,4 @@
--- The limits of document 01, once, by name. `src/limits.rt` has the same names.
+-- The limits of document 01 as document 02 changed them, once, by name. `src/limits.rt` has the same names.
 use Prim.Native.Nat.{ℕ}
 
 -- intervals of a circuit: a number is below it

@@ -1,4 +1,4 @@
-// The limits of document 01, once, by name. `specs/Limits.antt` has the same names.
+// The limits of document 01 as document 02 changed them, once, by name. `specs/Limits.antt` has the same names.
 
 // Intervals of a circuit: a number is below it.
 pub const INTERVALS: u32 = 3_000_000;
