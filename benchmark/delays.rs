@@ -99,6 +99,7 @@ fn lists() -> Vec<(&'static str, Vec<u32>)> {
     let mut misled = random.clone();
     (0..16_384).for_each(|i| misled[i * N / 16_384] = i as u32 % 1_000);
     let short: Vec<u32> = random[..1_000].to_vec();
+    let short_narrower: Vec<u32> = short.iter().map(|d| d / 4).collect();
     let middling: Vec<u32> = random[..30_000].to_vec();
     vec![
         ("1,000,000 random", random),
@@ -112,6 +113,7 @@ fn lists() -> Vec<(&'static str, Vec<u32>)> {
         ("1,000,000 random, misled", misled),
         ("30,000 random", middling),
         ("1,000 random", short),
+        ("1,000 random, a quarter as large", short_narrower),
     ]
 }
 
