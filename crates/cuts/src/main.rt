@@ -1,5 +1,7 @@
 // Runs the edges of documents 01 and 02 on summaries, reports and verdicts on the compiled code and prints what they give: `stdin` has a case in each line, and `stdout` is what
 // they must give. The first letter of a case says what it is.
+#![tactic(auto)]
+
 mod joins;
 mod periods_of;
 mod sets_of;

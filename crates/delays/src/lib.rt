@@ -1,4 +1,6 @@
 // Percentile delay and range over a lent list of delays. The list is read, and neither sorted, copied nor changed.
+#![tactic(auto)]
+
 ghost use Rattle.std.specs.Prelude.{◌≡◌, ◌<◌, ◌≤◌};
 ghost use Rattle.numbers.specs.Limits.{delays, million};
 ghost use Rattle.percentile.specs.Percentile.{place_above};
@@ -10,7 +12,7 @@ use percentile::few;
 use settings::{Settings, SettingsRead};
 
 // The percentile delay and the range, in ns, and whether each is at or below its objective.
-#[derive(Drop)]
+#[derive(Clone, Copy)]
 pub struct Figures {
     pub percentile: u32,
     pub range: u32,
@@ -19,7 +21,7 @@ pub struct Figures {
 }
 
 // What the operation gives.
-#[derive(Drop)]
+#[derive(Clone, Copy)]
 pub enum Outcome {
     Refused(Refusal),
     Answered(Figures),

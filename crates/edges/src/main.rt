@@ -1,5 +1,7 @@
 // Runs document 01's edges on the compiled code and prints what they give: `stdin` has a case in each line, and `stdout` is what they must give. The first letter of a
 // case says what it is. `clear`, `put` and `add` make the bytes that the cases behind them are about; the others print.
+#![tactic(auto)]
+
 mod delays_edges;
 mod labels_edges;
 mod measure_edges;

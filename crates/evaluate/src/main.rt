@@ -1,5 +1,7 @@
 // Evaluates settings.rec and intervals.rec of the directory that it is run in: the whole file is one period. It opens, reads, prints and closes; what
 // is said of the bytes is `files::conclude` of what was fed.
+#![tactic(auto)]
+
 mod output;
 mod reading;
 

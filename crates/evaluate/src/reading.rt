@@ -7,7 +7,7 @@ ghost use Rattle.evaluate.specs.Reading.{Within, FilledWithin, ReadyAfter, Growi
 use feeding::State;
 
 // How many bytes stand at the start of a buffer once more was read, or why there is no more.
-#[derive(Drop)]
+#[derive(Clone, Copy)]
 enum More {
     On(usize),
     End,
@@ -15,21 +15,21 @@ enum More {
 }
 
 // A buffer that was filled as far as the file goes.
-#[derive(Drop)]
+#[derive(Clone, Copy)]
 pub enum Filled {
     Bytes(usize),
     Failed,
 }
 
 // A state once more was fed, or why there is no more.
-#[derive(Drop)]
+#[derive(Clone, Copy)]
 enum Step {
     On(State),
     End(State),
     Failed,
 }
 
-#[derive(Drop)]
+#[derive(Clone, Copy)]
 pub enum Intervals {
     Fed(State),
     Missing,

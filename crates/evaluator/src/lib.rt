@@ -1,4 +1,6 @@
 // The running evaluator of a circuit, by value: a few words that the collector keeps, and the step that feeds it the next interval.
+#![tactic(auto)]
+
 ghost use Rattle.std.specs.Prelude.{◌≡◌, true, ◌<◌};
 ghost use Rattle.numbers.specs.Limits.{intervals};
 ghost use Rattle.settings.specs.Settings.{label_meets};
@@ -12,7 +14,7 @@ use rule::Track;
 use settings::{LabelSettings, SettingsRead};
 
 // Label settings, the number fed, and each track's label (1 available, 0 not) and number pending. Any words at all may stand here.
-#[derive(Drop)]
+#[derive(Clone, Copy)]
 pub struct Evaluator {
     pub length: u64,
     pub n: u64,
@@ -29,26 +31,26 @@ pub struct Evaluator {
     pub composite_pending: u64,
 }
 
-#[derive(Drop)]
+#[derive(Clone, Copy)]
 pub enum Started {
     Ready(Evaluator),
     Refused(Refusal),
 }
 
 // What a step settled on a track: how many labels, and which (1 available, 0 unavailable, 2 when none).
-#[derive(Drop)]
+#[derive(Clone, Copy)]
 pub struct Settled {
     pub count: u64,
     pub label: u64,
 }
 
-#[derive(Drop)]
+#[derive(Clone, Copy)]
 pub struct Answer {
     pub loss: Settled,
     pub composite: Settled,
 }
 
-#[derive(Drop)]
+#[derive(Clone, Copy)]
 pub enum Stepped {
     Fed(Evaluator, Answer),
     Refused(Refusal),
@@ -83,20 +85,20 @@ fn word_of(label: bool) -> u64
 }
 
 // What the words hold, where they are valid.
-#[derive(Drop)]
+#[derive(Clone, Copy)]
 pub struct Held {
     pub label: LabelSettings,
     pub loss: Track,
     pub composite: Track,
 }
 
-#[derive(Drop)]
+#[derive(Clone, Copy)]
 pub enum LabelRead {
     Valid(LabelSettings),
     Invalid,
 }
 
-#[derive(Drop)]
+#[derive(Clone, Copy)]
 pub enum HeldRead {
     Valid(Held),
     Invalid,
@@ -256,14 +258,14 @@ pub fn step(e: Evaluator, r: &[u8]) -> Stepped
 }
 
 // What a step answers.
-#[derive(Drop)]
+#[derive(Clone, Copy)]
 pub enum Told {
     Settled(Answer),
     Refused(Refusal),
 }
 
 // A step's answer with the evaluator that it leaves: a refusal leaves it as it was.
-#[derive(Drop)]
+#[derive(Clone, Copy)]
 pub struct Moved {
     pub evaluator: Evaluator,
     pub told: Told,

@@ -1,4 +1,6 @@
 // The running evaluator as words that the caller keeps: label settings, number fed, and label and number pending of each track.
+#![tactic(auto)]
+
 ghost use Rattle.std.specs.Prelude.{◌≡◌, length, ◌≤◌};
 ghost use Rattle.evaluator_words.specs.Running.{setting_words, state_words, evaluator_words, settled_words, evaluator_in, StartLeft, StepLeft};
 ghost use Rattle.words.specs.Written.{written, over};

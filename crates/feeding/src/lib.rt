@@ -1,6 +1,8 @@
 // Interval records fed piece by piece, in pieces of any sizes: at the end stands what the operation `summary` makes of all the bytes. Each
 // piece's whole records are made a summary of their own, which is joined to what is held; the bytes of a record that has only begun wait in a
 // lent tail of 48 bytes for the next piece.
+#![tactic(auto)]
+
 ghost use Rattle.std.specs.Prelude.{◌≡◌, ◌+◌, ◌<◌, ◌^◌, length};
 ghost use Rattle.numbers.specs.Refusals.{refusal};
 ghost use Rattle.feeding.specs.Feeding.{Known, Ready, Growing, standing, grown, grown_by, begun, fed, filled, if_whole, finished_by};
@@ -12,7 +14,7 @@ use summaries::Summary;
 use tracks::Track;
 
 // What the whole records so far say.
-#[derive(Drop)]
+#[derive(Clone, Copy)]
 pub enum Held {
     // the settings are no settings
     Unset,
@@ -22,7 +24,7 @@ pub enum Held {
 }
 
 // What is held, and how many bytes of a record that has begun stand in the tail.
-#[derive(Drop)]
+#[derive(Clone, Copy)]
 pub struct State {
     pub held: Held,
     pub left: usize,

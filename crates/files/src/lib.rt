@@ -1,4 +1,6 @@
 // A whole file of intervals as one period: its report and verdicts, or the refusal, of what was fed of it.
+#![tactic(auto)]
+
 ghost use Rattle.std.specs.Prelude.{◌≡◌, []};
 ghost use Rattle.settings.specs.Settings.{settings_of};
 ghost use Rattle.summaries.specs.Made.{made_of};
@@ -15,13 +17,13 @@ use tallies::Period;
 use tracks::Track;
 use verdicts::Verdicts;
 
-#[derive(Drop)]
+#[derive(Clone, Copy)]
 pub struct Answer {
     pub period: Period,
     pub verdicts: Verdicts,
 }
 
-#[derive(Drop)]
+#[derive(Clone, Copy)]
 pub enum Concluded {
     Answered(Answer),
     Refused(Refusal),

@@ -1,10 +1,12 @@
 // The frame record, 16 bytes.
+#![tactic(auto)]
+
 ghost use Rattle.std.specs.Prelude.{◌≡◌, length};
 ghost use Rattle.frames.specs.Frame.{frame_in, frame_of};
 
 use numbers::{known, limits};
 
-#[derive(Drop)]
+#[derive(Clone, Copy)]
 pub struct Frame {
     // ingress time, in ns since the start of interval 0
     pub time: u64,
@@ -13,7 +15,7 @@ pub struct Frame {
     pub lost: bool,
 }
 
-#[derive(Drop)]
+#[derive(Clone, Copy)]
 pub enum FrameRead {
     Valid(Frame),
     Invalid,

@@ -1,5 +1,7 @@
 // The summary of a stretch, gathered in one pass over its records. A segment, the records in a row in which neither mark changes, is one run
 // for both tracks; only where a mark changes is it put behind them.
+#![tactic(auto)]
+
 ghost use Rattle.std.specs.Prelude.{◌≡◌, true, ◌+◌, ◌-◌, ◌≤◌};
 ghost use Rattle.numbers.specs.Limits.{intervals};
 ghost use Rattle.numbers.specs.Refusals.{refusal};
@@ -22,14 +24,14 @@ use summaries::Summary;
 use tracks::Track;
 
 // A summary, or why there is none.
-#[derive(Drop)]
+#[derive(Clone, Copy)]
 pub enum Gathered {
     Good(Summary),
     Bad(Refusal),
 }
 
 // A track of several runs, taken apart.
-#[derive(Drop)]
+#[derive(Clone, Copy)]
 pub struct Several {
     pub first: Run,
     pub middle: Middle,

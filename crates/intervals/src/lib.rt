@@ -1,4 +1,6 @@
 // The interval record, 48 bytes: its values, its rules, read and written; and a slice of many of them.
+#![tactic(auto)]
+
 ghost use Rattle.std.specs.Prelude.{◌≡◌, ◌-◌, ◌*◌, cond, length};
 ghost use Rattle.std.proofs.lemmas.List.Edits.{sets};
 ghost use Rattle.numbers.specs.Many.{record_at};
@@ -8,7 +10,7 @@ ghost use Rattle.intervals.specs.Interval.{interval_in, interval_of, count_bytes
 use numbers::refusal::{Fault, Refusal};
 use numbers::{bytes, known, limits, many};
 
-#[derive(Drop)]
+#[derive(Clone, Copy)]
 pub struct Interval {
     pub number: u32,
     pub sent: u32,
@@ -26,7 +28,7 @@ pub struct Interval {
     pub maintenance: bool,
 }
 
-#[derive(Drop)]
+#[derive(Clone, Copy)]
 pub enum IntervalRead {
     Valid(Interval),
     Invalid,
@@ -151,7 +153,7 @@ pub fn read_at(s: &[u8], k: usize) -> IntervalRead
     read(many::part(s, 48, k))
 }
 
-#[derive(Drop)]
+#[derive(Clone, Copy)]
 pub enum Sequence {
     // every record is valid and the next after the one before it
     Sound,

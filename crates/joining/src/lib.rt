@@ -1,4 +1,6 @@
 // Two adjoining summaries, joined.
+#![tactic(auto)]
+
 ghost use Rattle.std.specs.Prelude.{◌≡◌};
 ghost use Rattle.numbers.specs.Refusals.{refusal};
 ghost use Rattle.joining.specs.Joining.{joined_of, Adjoining, Outcome};
@@ -7,7 +9,7 @@ use numbers::refusal::{Fault, Refusal};
 use numbers::room;
 use summaries::{Summary, SummaryRead};
 
-#[derive(Drop)]
+#[derive(Clone, Copy)]
 pub enum Joined {
     Written,
     Refused(Refusal),

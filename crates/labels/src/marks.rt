@@ -9,7 +9,7 @@ use numbers::{bytes, limits, many};
 use rule::Counts;
 use settings::LabelSettings;
 
-#[derive(Drop)]
+#[derive(Clone, Copy)]
 pub struct Both {
     pub loss: bool,
     pub composite: bool,

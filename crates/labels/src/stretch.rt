@@ -15,7 +15,7 @@ use numbers::{many, room};
 use rule::{Counts, Track};
 use settings::{LabelSettings, SettingsRead};
 
-#[derive(Drop)]
+#[derive(Clone, Copy)]
 pub enum Labelled {
     Written,
     Refused(Refusal),
@@ -62,7 +62,7 @@ fn leave(part: &mut [u8], k: usize, lane: usize, t: Track)
 }
 
 // Both tracks.
-#[derive(Drop)]
+#[derive(Clone, Copy)]
 pub struct Tracks {
     pub loss: Track,
     pub composite: Track,

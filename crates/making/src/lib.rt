@@ -1,4 +1,6 @@
 // The operation `summary`: the summary of a stretch out of its records.
+#![tactic(auto)]
+
 ghost use Rattle.std.specs.Prelude.{◌≡◌};
 ghost use Rattle.numbers.specs.Refusals.{refusal};
 ghost use Rattle.making.specs.Making.{Outcome};
@@ -9,7 +11,7 @@ use numbers::refusal::{Fault, Refusal};
 use numbers::{limits, many, room};
 use settings::SettingsRead;
 
-#[derive(Drop)]
+#[derive(Clone, Copy)]
 pub enum Made {
     Written,
     Refused(Refusal),

@@ -1,4 +1,6 @@
 // From frames to one interval.
+#![tactic(auto)]
+
 ghost use Rattle.std.specs.Prelude.{◌≡◌, ◌^◌, ◌≤◌, ◌<◌, min, max, cond};
 ghost use Rattle.measure.specs.Measured.{apart};
 ghost use Rattle.measure.specs.Running.{added, finished, nothing, taken_of, Small};
@@ -14,7 +16,7 @@ use numbers::{limits, many, room};
 use settings::{LabelSettings, SettingsRead};
 
 // What the frames taken so far give, and what the next one needs of the last.
-#[derive(Drop)]
+#[derive(Clone, Copy)]
 pub struct Tally {
     pub sent: u32,
     pub lost: u32,
@@ -30,20 +32,20 @@ pub struct Tally {
 }
 
 // The tally of frames, or the first fault among them.
-#[derive(Drop)]
+#[derive(Clone, Copy)]
 pub enum Taken {
     All(Tally),
     Not(Refusal),
 }
 
 // An interval, or why there is none.
-#[derive(Drop)]
+#[derive(Clone, Copy)]
 pub enum Judged {
     Good(Interval),
     Bad(Refusal),
 }
 
-#[derive(Drop)]
+#[derive(Clone, Copy)]
 pub enum Answer {
     Written,
     Refused(Refusal),

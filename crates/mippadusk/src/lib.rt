@@ -1,5 +1,7 @@
 // The C interface. Each function answers 0, or its refusal as one word; a refusal writes nothing. What each does stands in the crates below, and so do the
 // definitions that the contracts cite.
+#![tactic(auto)]
+
 ghost use Rattle.interval_words.specs.DelayList.{delays_outcome, Answers};
 ghost use Rattle.interval_words.specs.FrameList.{IntervalLeft};
 ghost use Rattle.interval_words.specs.LabelList.{LabelsLeft};

@@ -2,7 +2,7 @@
 ghost use Rattle.std.specs.Prelude.{◌≡◌, length};
 ghost use Rattle.numbers.specs.Many.{count_of, record_at};
 
-#[derive(Drop)]
+#[derive(Clone, Copy)]
 pub enum Counted {
     // so many records, and nothing behind them
     Whole(usize),

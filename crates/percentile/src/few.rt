@@ -14,14 +14,14 @@ const SAMPLE: usize = 16_384;
 const MARGIN: u32 = 192;
 
 // Two numbers against which all delays are counted.
-#[derive(Drop)]
+#[derive(Clone, Copy)]
 pub struct Pivots {
     pub lo: u32,
     pub hi: u32,
 }
 
 // What one pass over the list finds.
-#[derive(Drop)]
+#[derive(Clone, Copy)]
 pub struct Counts {
     // the least delay
     pub least: u32,

@@ -3,7 +3,7 @@ ghost use Rattle.std.specs.Prelude.{◌≡◌, ◌*◌, ◌^◌, ◌<◌, ◌≤
 ghost use Rattle.percentile.specs.Ranks.{Slot, Tally, Front, Ranked};
 
 // Where the search stands: `under` delays are below `lo`.
-#[derive(Drop)]
+#[derive(Clone, Copy)]
 struct Mark {
     lo: u32,
     under: u32,

@@ -1,4 +1,6 @@
 // What stands above the summaries sees of them: a valid one, its numbers and its label settings, and the report of the middle of three.
+#![tactic(auto)]
+
 ghost use Rattle.std.specs.Prelude.{◌≡◌};
 ghost use Rattle.periods.specs.Stretches.{stretch_of, first_of, after_of, label_of, period_of, Known};
 ghost use Rattle.periods.specs.Between.{between, BetweenFits};
@@ -9,12 +11,12 @@ use tallies::{Counts, Period, Tally};
 use tracks::Track;
 
 // A valid summary. Those above read its numbers and label settings, and hand the rest on.
-#[derive(Drop)]
+#[derive(Clone, Copy)]
 pub struct Stretch {
     pub held: Summary,
 }
 
-#[derive(Drop)]
+#[derive(Clone, Copy)]
 pub enum StretchRead {
     Valid(Stretch),
     Invalid,

@@ -1,4 +1,6 @@
 // What the C interface does of reports and verdicts: each function answers 0 and its words, or its refusal as one word; a refusal writes nothing.
+#![tactic(auto)]
+
 ghost use Rattle.std.specs.Prelude.{◌≡◌, length, ◌≤◌};
 ghost use Rattle.numbers.specs.Refusals.{refusal};
 ghost use Rattle.words.specs.Written.{written, over};

@@ -1,4 +1,6 @@
 // Three adjoining summaries, the first from 0, and the report of the middle one.
+#![tactic(auto)]
+
 ghost use Rattle.std.specs.Prelude.{◌≡◌, ◌≤◌, eqb};
 ghost use Rattle.numbers.specs.Refusals.{refusal};
 ghost use Rattle.settings.specs.Settings.{same_label};
@@ -11,14 +13,14 @@ use periods::{Stretch, StretchRead};
 use settings::LabelSettings;
 use tallies::Period;
 
-#[derive(Drop)]
+#[derive(Clone, Copy)]
 pub enum Reported {
     Answered(Period),
     Refused(Refusal),
 }
 
 // The label settings that summaries have to have: any, or those of the settings given.
-#[derive(Drop)]
+#[derive(Clone, Copy)]
 pub enum Wanted {
     Any,
     These(LabelSettings),

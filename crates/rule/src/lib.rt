@@ -1,18 +1,20 @@
 // One track of marks and its labels, by 01's rule: what the running evaluator and the label bytes are made of.
 // In code as in specs/, a mark says high and a label says unavailable.
+#![tactic(auto)]
+
 ghost use Rattle.std.specs.Prelude.{◌≡◌, ◌-◌, ◌+◌, ◌*◌, ◌/◌, ◌%◌, ◌<◌, ◌≤◌};
 ghost use Rattle.rule.specs.Evaluator.{stepped, reachable};
 ghost use Rattle.rule.specs.Marks.{high_loss, high_composite, weighed, indicator, nothing_weighed};
 
 // What a running evaluator keeps of one track: the last label that it settled, and how many marks behind it speak against it.
-#[derive(Drop)]
+#[derive(Clone, Copy)]
 pub struct Track {
     pub label: bool,
     pub pending: u64,
 }
 
 // What a mark does to it: the track after it, and how many labels it settled, all as the mark itself says.
-#[derive(Drop)]
+#[derive(Clone, Copy)]
 pub struct Turned {
     pub track: Track,
     pub count: u64,
@@ -59,7 +61,7 @@ pub fn can_hold(n: u64, fed: u64, t: Track) -> bool
 }
 
 // What the marks of an interval are made of.
-#[derive(Drop)]
+#[derive(Clone, Copy)]
 pub struct Counts {
     pub sent: u32,
     pub lost: u32,
@@ -68,7 +70,7 @@ pub struct Counts {
     pub jumpy: u32,
 }
 
-#[derive(Drop)]
+#[derive(Clone, Copy)]
 pub struct Fraction {
     pub top: u64,
     pub bottom: u64,

@@ -7,7 +7,7 @@ use numbers::limits::LARGEST_DELAY;
 use tallies::Totals;
 
 // What intervals add up to. The least delay is kept as headroom, the largest delay allowed less it.
-#[derive(Drop)]
+#[derive(Clone, Copy)]
 pub struct Load {
     pub count: u32,
     pub sent: u64,
@@ -18,7 +18,7 @@ pub struct Load {
 }
 
 // The figures of a set of intervals: its load, how many are high, and its runs of high loss intervals of length p or more.
-#[derive(Drop)]
+#[derive(Clone, Copy)]
 pub struct Figures {
     pub load: Load,
     pub high: u32,

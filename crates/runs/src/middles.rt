@@ -8,14 +8,14 @@ use crate::run::Run;
 use crate::{figures, run};
 
 // The label behind a middle: that of the run before it, or one of its own (true is unavailable).
-#[derive(Drop)]
+#[derive(Clone, Copy)]
 pub enum Label {
     Inherits,
     Says(bool),
 }
 
 // What lies between two runs: what still takes the label from the left, what is available, and how many are unavailable.
-#[derive(Drop)]
+#[derive(Clone, Copy)]
 pub struct Middle {
     pub label: Label,
     pub inherited: Figures,

@@ -9,13 +9,13 @@ use tallies::Marked;
 
 // Where maintenance splits the counted intervals of a run of high marks. Solid: nowhere, and all of them count. Split: how many touch
 // the left end, how many stretches of length p or more touch neither end, and how many touch the right end.
-#[derive(Drop)]
+#[derive(Clone, Copy)]
 pub enum Edges {
     Solid(u32),
     Split(u32, u32, u32),
 }
 
-#[derive(Drop)]
+#[derive(Clone, Copy)]
 pub struct Run {
     pub mark: bool,
     pub len: u32,

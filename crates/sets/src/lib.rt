@@ -1,4 +1,6 @@
 // The verdicts of a set of ordered pairs, each of which is three adjoining summaries.
+#![tactic(auto)]
+
 ghost use Rattle.std.specs.Prelude.{◌≡◌, []};
 ghost use Rattle.numbers.specs.Refusals.{refusal};
 ghost use Rattle.sets.specs.Sets.{pairs_from, set_from, judged_of, Gone};
@@ -9,7 +11,7 @@ use reports::{Reported, Wanted};
 use settings::{Settings, SettingsRead};
 use verdicts::Verdicts;
 
-#[derive(Drop)]
+#[derive(Clone, Copy)]
 pub enum Judged {
     Answered(Verdicts),
     Refused(Refusal),

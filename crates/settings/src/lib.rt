@@ -1,4 +1,6 @@
 // The settings record, 64 bytes: its values, its rules, and the label settings, which are its first 24 bytes.
+#![tactic(auto)]
+
 ghost use Rattle.std.specs.Prelude.{◌≡◌};
 ghost use Rattle.std.proofs.lemmas.List.Edits.{sets};
 ghost use Rattle.settings.specs.Settings.{label_in, label_meets, objectives_in, objectives_meet, settings_of, same_label, shape_bytes, threshold_bytes, label_bytes};
@@ -6,7 +8,7 @@ ghost use Rattle.settings.specs.Settings.{label_in, label_meets, objectives_in, 
 use numbers::{bytes, limits};
 
 // What labels depend on.
-#[derive(Drop)]
+#[derive(Clone, Copy)]
 pub struct LabelSettings {
     // interval length in ms
     pub length: u32,
@@ -22,7 +24,7 @@ pub struct LabelSettings {
     pub jt: u32,
 }
 
-#[derive(Drop)]
+#[derive(Clone, Copy)]
 pub struct Settings {
     pub label: LabelSettings,
     // least availability, least composite and most loss, in parts per million
@@ -41,7 +43,7 @@ pub struct Settings {
     pub range: u32,
 }
 
-#[derive(Drop)]
+#[derive(Clone, Copy)]
 pub enum SettingsRead {
     Valid(Settings),
     Invalid,

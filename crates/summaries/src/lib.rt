@@ -1,4 +1,6 @@
 // A summary in its 1,024 bytes.
+#![tactic(auto)]
+
 ghost use Rattle.std.specs.Prelude.{◌≡◌, length};
 ghost use Rattle.summaries.specs.Stored.{summary_in, header_meets, tracks_meet, summary_of, summary_bytes};
 
@@ -9,7 +11,7 @@ use settings::LabelSettings;
 use tracks::Track;
 
 // A stretch: its first number, the number after its last, and what its tracks hold under the label settings.
-#[derive(Drop)]
+#[derive(Clone, Copy)]
 pub struct Summary {
     pub first: u32,
     pub after: u32,
@@ -18,7 +20,7 @@ pub struct Summary {
     pub composite: Track,
 }
 
-#[derive(Drop)]
+#[derive(Clone, Copy)]
 pub enum SummaryRead {
     Valid(Summary),
     Invalid,

@@ -1,4 +1,6 @@
 // What the C interface does of summaries: each function answers 0, or its refusal as one word; a refusal writes nothing.
+#![tactic(auto)]
+
 ghost use Rattle.summary_words.specs.SummaryList.{SummaryLeft, JoinLeft};
 
 use joining::Joined;

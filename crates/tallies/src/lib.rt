@@ -1,7 +1,8 @@
 // What a report says of a period, and what a track sees of an interval. The definitions that give them their meaning stand in specs/.
+#![tactic(auto)]
 
 // An interval as one track sees it: its mark (true is high), whether it is in maintenance, and its sums.
-#[derive(Drop)]
+#[derive(Clone, Copy)]
 pub struct Marked {
     pub mark: bool,
     pub maintenance: bool,
@@ -13,7 +14,7 @@ pub struct Marked {
 }
 
 // The figures of a set of intervals, maintenance left out. The least delay is 0 where nothing was delivered.
-#[derive(Drop)]
+#[derive(Clone, Copy)]
 pub struct Totals {
     pub count: u32,
     pub high: u32,
@@ -26,7 +27,7 @@ pub struct Totals {
 }
 
 // The figures of the available intervals, how many are unavailable, and the figures of those that are undecided.
-#[derive(Drop)]
+#[derive(Clone, Copy)]
 pub struct Tally {
     pub available: Totals,
     pub unavailable: u32,
@@ -34,7 +35,7 @@ pub struct Tally {
 }
 
 // How many intervals are available, unavailable and undecided.
-#[derive(Drop)]
+#[derive(Clone, Copy)]
 pub struct Counts {
     pub available: u32,
     pub unavailable: u32,
@@ -42,7 +43,7 @@ pub struct Counts {
 }
 
 // The report of a period: how many intervals it has, how many of them in maintenance, and of the others what each track says.
-#[derive(Drop)]
+#[derive(Clone, Copy)]
 pub struct Period {
     pub length: u32,
     pub maintenance: u32,

@@ -1,5 +1,7 @@
 // The rules of a track, as tests: what a reader of records looks at. Each takes any values at all. And what a track sees of an interval
 // record.
+#![tactic(auto)]
+
 ghost use Rattle.std.specs.Prelude.{◌≡◌, cond, ◌-◌, ◌*◌, ◌≤◌};
 ghost use Rattle.numbers.specs.Limits.{intervals, frames, largest_delay};
 ghost use Rattle.runs.specs.Runs.{one};

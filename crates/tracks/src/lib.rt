@@ -1,4 +1,6 @@
 // Tracks of a stretch: grown run by run, joined, put in maintenance, and the whole of a known sequence.
+#![tactic(auto)]
+
 ghost use Rattle.std.specs.Prelude.{◌≡◌, cond, ◌<◌};
 ghost use Rattle.runs.specs.Runs.{glue, same};
 ghost use Rattle.runs.specs.Middles.{times, shut};
@@ -13,7 +15,7 @@ use runs::{figures, middles, run};
 use tallies::Tally;
 
 // Nothing, one run, or a first run, what lies between, and a last run.
-#[derive(Drop)]
+#[derive(Clone, Copy)]
 pub enum Track {
     Nothing,
     One(Run),
@@ -22,7 +24,7 @@ pub enum Track {
 
 // A known sequence from interval 0: the figures of its available intervals, how many are unavailable, and the figures of those that are
 // undecided.
-#[derive(Drop)]
+#[derive(Clone, Copy)]
 pub struct Outcome {
     pub available: Figures,
     pub unavailable: u32,

@@ -1,4 +1,6 @@
 // Verdicts of a report against the objectives of settings, and of a set of reports.
+#![tactic(auto)]
+
 ghost use Rattle.std.specs.Prelude.{◌≡◌, true, false, [], ◌∷◌, ◌+◌, ◌≤◌};
 ghost use Rattle.numbers.specs.Limits.{intervals, million, largest_delay};
 ghost use Rattle.verdicts.specs.Verdicts.{verdict_number, common, enough, loss_met, mean_met, met_by, taken_as, verdicts_of, Fits, Objectives, Judgeable};
@@ -8,7 +10,7 @@ use numbers::limits;
 use settings::Settings;
 use tallies::Period;
 
-#[derive(Drop)]
+#[derive(Clone, Copy)]
 pub enum Verdict {
     NotMet,
     Met,
@@ -16,7 +18,7 @@ pub enum Verdict {
 }
 
 // The figures of a report that the objectives are tested by.
-#[derive(Drop)]
+#[derive(Clone, Copy)]
 pub struct Asked {
     pub available: u32,
     pub unavailable: u32,
@@ -30,7 +32,7 @@ pub struct Asked {
 }
 
 // Which objectives are met.
-#[derive(Drop)]
+#[derive(Clone, Copy)]
 pub struct Tested {
     pub availability: bool,
     pub composite: bool,
@@ -41,7 +43,7 @@ pub struct Tested {
 }
 
 // A verdict for each objective.
-#[derive(Drop)]
+#[derive(Clone, Copy)]
 pub struct Verdicts {
     pub availability: Verdict,
     pub composite: Verdict,
