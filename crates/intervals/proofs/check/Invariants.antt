@@ -1,0 +1,14 @@
+-- `intervals::check` meets its contract. The loop's invariant: the answer is that of the records from k on, with the number that is due.
+use mathlib.Core.Path.{◌≡◌, ap, sym, ◌∙◌}
+use Prim.Native.Nat.{◌-◌, ◌≤◌}
+use native.Mathlib.Omega.{arith}
+use borrow.Author.Rules.{rules}
+use Rattle.intervals.specs.Sequence.{reads_from, intervals_in, checked}
+use Rattle.intervals.proofs.Sequences.{reads_all, check_done, check_invalid, check_disordered, check_next}
+use Rattle.intervals.proofs.check.Given as goal
+
+abbrev pub invariant-loop-k : goal.invariant-loop-k
+invariant-loop-k l = (l.k ≤ l.n) × (checked l.first 0 (intervals_in l.s) ≡ checked l.next l.k (reads_from (l.n - l.k) l.s l.k))
+
+abbrev pub decreases-loop-k : goal.decreases-loop-k
+decreases-loop-k l = l.n - l.k

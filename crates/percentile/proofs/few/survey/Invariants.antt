@@ -1,0 +1,21 @@
+-- `survey` meets its contract. The invariant: each count of the delays passed, and that of those left, make up the whole.
+use Rattle.std.proofs.Common.{◌≡◌, ℕ, ◌+◌, ◌-◌, Bool, ltb, leb, length, get_or, drop, lt_of_le_of_lt, w32, Fits, rules}
+use Rattle.percentile.specs.Percentile.{hit, how_many}
+use Rattle.percentile.proofs.Survey.{Seen, seen_start, seen_step, seen_end, counted_fits}
+use Rattle.percentile.proofs.few.survey.Given as goal
+
+abbrev pub invariant-loop-i : goal.invariant-loop-i
+invariant-loop-i l =
+    Seen l.list l.largest l.lo l.hi l.i
+    (record {
+      least = l.least;
+      within = l.within;
+      under_lo = l.under_lo;
+      upto_lo = l.upto_lo;
+      under_hi = l.under_hi;
+      upto_hi = l.upto_hi;
+    })
+
+abbrev pub decreases-loop-i : goal.decreases-loop-i
+decreases-loop-i l =
+    length l.list - l.i
