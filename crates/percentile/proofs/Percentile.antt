@@ -18,6 +18,7 @@ least_from_le m (x ∷ xs) = omega (arith, least_from_le (min m x) xs)
 
 least_from_below : (m e : ℕ) (xs : List ℕ) → Memᴰ e xs → least_from m xs ≤ e
 unfolding least_from
+least_from_below m e [] h = elim h [ ]
 least_from_below m e (x ∷ xs) (Memᴰ.head p) = omega (arith, least_from_le (min m x) xs)
 least_from_below m e (x ∷ xs) (Memᴰ.tail h) = least_from_below (min m x) e xs h
 
@@ -36,11 +37,13 @@ least_from_listed m (x ∷ xs) = back (least_from_listed (min m x) xs)
 
 pub least_below : (e : ℕ) (xs : List ℕ) → Memᴰ e xs → least xs ≤ e
 unfolding least
+least_below e [] h = elim h [ ]
 least_below e (x ∷ xs) (Memᴰ.head p) = omega (arith, least_from_le x xs)
 least_below e (x ∷ xs) (Memᴰ.tail h) = least_from_below x e xs h
 
 least_listed : (e : ℕ) (xs : List ℕ) → Memᴰ e xs → Memᴰ (least xs) xs
 unfolding least
+least_listed e [] h = elim h [ ]
 least_listed e (x ∷ xs) h = least_from_listed x xs
 
 -- what a test keeps: the members that pass
@@ -51,6 +54,7 @@ still_listed false x h = h
 
 keep_listed : (f : ℕ → Bool) (e : ℕ) (xs : List ℕ) → Memᴰ e xs → f e ≡ true → Memᴰ e (keep f xs)
 unfolding keep
+keep_listed f e [] h t = elim h [ ]
 keep_listed f e (x ∷ xs) (Memᴰ.head p) t =
     let pass : f x ≡ true = ap f (sym p) ∙ t in rw pass (Memᴰ.head p)
 keep_listed f e (x ∷ xs) (Memᴰ.tail h) t = still_listed (f x) x (keep_listed f e xs h t)

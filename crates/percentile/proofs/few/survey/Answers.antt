@@ -1,36 +1,31 @@
 -- `survey` meets its contract. The invariant: each count of the delays passed, and that of those left, make up the whole.
-use Rattle.std.proofs.Common.{◌≡◌, ℕ, ◌+◌, ◌-◌, Bool, ltb, leb, length, get_or, drop, lt_of_le_of_lt, w32, Fits, rules}
+use Rattle.std.proofs.Common.{◌≡◌, ℕ, ◌+◌, ◌-◌, Bool, ltb, leb, length, get_or, drop, lt_of_le_of_lt, List, ◌<◌, ◌^◌, w32, Fits, rules}
 use Rattle.percentile.specs.Percentile.{hit, how_many}
 use Rattle.percentile.proofs.Survey.{Seen, seen_start, seen_step, seen_end, counted_fits}
 use Rattle.percentile.proofs.few.survey.Goals as goal
 
-abbrev start : tie.After-lesser invariant-loop-i decreases-loop-i → tie.Start invariant-loop-i decreases-loop-i
-start c = c
-
 -- a count fits, since it is at most the length
-sum_fits : (c : tie.After-lesser invariant-loop-i decreases-loop-i) (f : ℕ → Bool) (n : ℕ)
-    → n + how_many f (drop c.loop-i.i (start c).args.list.now) ≡ how_many f (start c).args.list.now
-    → Fits w32 (n + hit (f (get_or (start c).args.list.now c.loop-i.i 0)))
-sum_fits c f n e =
-    record { fits = lt_of_le_of_lt (counted_fits f _ _ n c.loop-i-test.true e) (start c).requires.1 }
+sum_fits : (f : ℕ → Bool) (n i : ℕ) (xs : List ℕ) → i < length xs → length xs < 2 ^ 32
+    → n + how_many f (drop i xs) ≡ how_many f xs → Fits w32 (n + hit (f (get_or xs i 0)))
+sum_fits f n i xs h room e = record { fits = lt_of_le_of_lt (counted_fits f _ _ n h e) room }
 
 pub loop-i-init : goal.loop-i-init
 loop-i-init c = seen_start _ _ _ _ c.requires.0
 
 pub overflow_add-within : goal.overflow_add-within
-overflow_add-within c = sum_fits c (λ x. leb x (start c).args.largest) _ c.loop-i.invariant.all
+overflow_add-within c = sum_fits (λ x. leb x c.args.largest) _ _ _ c.loop-i-test.true c.requires.1 c.loop-i.invariant.all
 
 pub overflow_add-under_lo : goal.overflow_add-under_lo
-overflow_add-under_lo c = sum_fits c (λ x. ltb x (start c).args.p.lo) _ c.loop-i.invariant.before_lo
+overflow_add-under_lo c = sum_fits (λ x. ltb x c.args.p.lo) _ _ _ c.loop-i-test.true c.requires.1 c.loop-i.invariant.before_lo
 
 pub overflow_add-upto_lo : goal.overflow_add-upto_lo
-overflow_add-upto_lo c = sum_fits c (λ x. leb x (start c).args.p.lo) _ c.loop-i.invariant.upto_lo
+overflow_add-upto_lo c = sum_fits (λ x. leb x c.args.p.lo) _ _ _ c.loop-i-test.true c.requires.1 c.loop-i.invariant.upto_lo
 
 pub overflow_add-under_hi : goal.overflow_add-under_hi
-overflow_add-under_hi c = sum_fits c (λ x. ltb x (start c).args.p.hi) _ c.loop-i.invariant.before_hi
+overflow_add-under_hi c = sum_fits (λ x. ltb x c.args.p.hi) _ _ _ c.loop-i-test.true c.requires.1 c.loop-i.invariant.before_hi
 
 pub overflow_add-upto_hi : goal.overflow_add-upto_hi
-overflow_add-upto_hi c = sum_fits c (λ x. leb x (start c).args.p.hi) _ c.loop-i.invariant.upto_hi
+overflow_add-upto_hi c = sum_fits (λ x. leb x c.args.p.hi) _ _ _ c.loop-i-test.true c.requires.1 c.loop-i.invariant.upto_hi
 
 pub loop-i-preserved : goal.loop-i-preserved
 loop-i-preserved c =

@@ -7,11 +7,11 @@ pub returns-then-q-lt2048 : goal.returns-then-q-lt2048
 returns-then-q-lt2048 c =
     slot_found c.args.lo (2 ^ c.args.s) c.args.x
     c.wrapping_sub_u64-from_lo.result (pow_pos c.args.s) (pow_mono {j = 31} (omega arith)) (omega arith) (omega arith)
-    (omega arith) c.wrapping_sub_u64-from_lo.ensures c.if-q-lt2048.true
+    (omega arith) c.wrapping_sub_u64-from_lo.ensures.value c.if-q-lt2048.true
 
 pub returns-else-q-lt2048 : goal.returns-else-q-lt2048
 returns-else-q-lt2048 c =
     slot_outside c.args.lo (2 ^ c.args.s) c.args.x
     c.wrapping_sub_u64-from_lo.result (pow_pos c.args.s) (pow_mono {j = 31} (omega arith)) (omega arith) (omega arith)
-    (omega arith) c.wrapping_sub_u64-from_lo.ensures c.args.spare c.requires.1 c.requires.2
+    (omega arith) c.wrapping_sub_u64-from_lo.ensures.value c.args.spare c.requires.1 c.requires.2
     c.if-q-lt2048.false

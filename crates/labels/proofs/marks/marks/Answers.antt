@@ -1,0 +1,6 @@
+-- `labels::marks::marks` marks what `counts_of` takes out.
+use borrow.Author.Rules.{rules}
+use Rattle.labels.proofs.marks.marks.Goals as goal
+
+pub returns : goal.returns
+returns c = rw (c.high.ensures, c.counts_of.ensures)

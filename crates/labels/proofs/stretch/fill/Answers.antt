@@ -1,0 +1,38 @@
+-- `labels::stretch::fill`: what is left to set from `j` on gives the same as setting all.
+use borrow.Author.Rules.{rules}
+use mathlib.Core.Path.{◌≡◌, refl, sym, ◌∙◌}
+use mathlib.Core.List.{List}
+use Prim.Native.Nat.{ℕ, ◌+◌, ◌*◌, ◌-◌, ◌≤◌}
+use native.Mathlib.Omega.{arith}
+use lib.ListN.{length, length-set}
+use Rattle.labels.specs.Stretch.{strided}
+use Rattle.labels.proofs.Strides.{strided_start, strided_next, strided_none}
+use Rattle.labels.proofs.stretch.fill.Goals as goal
+use Rattle.labels.proofs.stretch.fill.Invariants.{Inv}
+
+pub loop-j-init : goal.loop-j-init
+loop-j-init c = record { most = omega arith; long = refl; left = strided_start c.args.part.now c.args.from c.args.count c.args.x }
+
+pub overflow_mul-i : goal.overflow_mul-i
+overflow_mul-i c = omega (arith, c.loop-j.invariant.long)
+
+pub overflow_add-i : goal.overflow_add-i
+overflow_add-i c = omega (arith, c.loop-j.invariant.long)
+
+pub bounds-part-i : goal.bounds-part-i
+bounds-part-i c = omega (arith, c.loop-j.invariant.long)
+
+pub loop-j-preserved : goal.loop-j-preserved
+loop-j-preserved c =
+    let a = c.args in
+    record {
+      most = omega arith;
+      long = rw length-set c.loop-j.invariant.long;
+      left = c.loop-j.invariant.left ∙ strided_next c.loop-j.part a.from a.count a.x c.loop-j.j (search rules);
+    }
+
+pub shape_of-part : goal.shape_of-part
+shape_of-part c = c.loop-j.invariant.long
+
+pub returns : goal.returns
+returns c = sym (c.loop-j.invariant.left ∙ strided_none c.loop-j.part _ _ (omega arith))
