@@ -147,6 +147,8 @@ first_of_all a olds = set_append (a ∷ []) olds ∙ ap (λ x. of_set (x ∷ of_
 all_stay : (olds news : List Verdict) → AllKept olds news → Stays (of_set olds) (of_set news)
 unfolding AllKept
 all_stay [] [] h = same
+all_stay [] (b ∷ news) h = elim h [ ]
+all_stay (a ∷ olds) [] h = elim h [ ]
 all_stay (a ∷ olds) (b ∷ news) h = rw (first_of_all a olds, first_of_all b news) (stays_both (stays_by h.0.0 a b h.0.1) (all_stay olds news h.1))
 
 pub set_kept : (olds news : List Verdict) → AllKept olds news → (of_set olds ≢ Verdict.NotYet → of_set news ≡ of_set olds) × (of_set news ≡ Verdict.NotYet → of_set olds ≡ Verdict.NotYet)

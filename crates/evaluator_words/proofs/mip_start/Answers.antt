@@ -1,0 +1,19 @@
+-- `mip_start` meets its contract: each of its ways out is the outcome under the tests that led there.
+use mathlib.Core.Path.{sym, ◌∙◌}
+use borrow.Author.Rules.{rules}
+use native.Mathlib.Omega.{arith}
+use Rattle.evaluator.proofs.Places.{start_place}
+use Rattle.evaluator_words.proofs.Stepped.{start_refused, start_short, started}
+use Rattle.evaluator_words.proofs.mip_start.Goals as goal
+
+pub word-requires : goal.word-requires
+word-requires c = omega (arith, start_place _ _ (sym c.start.ensures ∙ c.in-Refused.is))
+
+pub returns-then-evaluator-lt13 : goal.returns-then-evaluator-lt13
+returns-then-evaluator-lt13 c = start_short _ _ _ _ (sym c.start.ensures ∙ c.in-Ready.is) c.if-evaluator-lt13.true c.word-then-evaluator-lt13.ensures
+
+pub returns-in-Refused : goal.returns-in-Refused
+returns-in-Refused c = start_refused _ _ _ _ (sym c.start.ensures ∙ c.in-Refused.is) c.word.ensures
+
+pub returns-else-evaluator-lt13 : goal.returns-else-evaluator-lt13
+returns-else-evaluator-lt13 c = started _ _ _ _ (sym c.start.ensures ∙ c.in-Ready.is) c.if-evaluator-lt13.false c.put.ensures

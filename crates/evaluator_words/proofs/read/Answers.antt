@@ -1,0 +1,9 @@
+-- `read` takes the thirteen words apart.
+use mathlib.Core.Path.{refl}
+use borrow.Author.Rules.{rules}
+use Rattle.evaluator_words.specs.Running.{evaluator_in}
+use Rattle.evaluator_words.proofs.read.Goals as goal
+
+pub returns : goal.returns
+unfolding evaluator_in
+returns c = refl

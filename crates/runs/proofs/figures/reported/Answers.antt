@@ -1,0 +1,8 @@
+-- `runs::figures::reported` meets its contract, value by value.
+use borrow.Author.Rules.{rules}
+use Rattle.runs.specs.Figures.{reported}
+use Rattle.runs.proofs.figures.reported.Goals as goal
+
+pub returns : goal.returns
+unfolding reported
+returns c = rw c.turned.ensures

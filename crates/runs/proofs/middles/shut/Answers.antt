@@ -1,0 +1,8 @@
+-- `runs::middles::shut` meets its contract: the run's figures, placed by its verdict.
+use borrow.Author.Rules.{rules}
+use Rattle.runs.specs.Middles.{shut}
+use Rattle.runs.proofs.middles.shut.Goals as goal
+
+pub returns : goal.returns
+unfolding shut
+returns c = rw (c.placed.ensures, c.figures_of.ensures, c.verdict.ensures)

@@ -1,0 +1,8 @@
+-- `tracks::start` meets its contract.
+use borrow.Author.Rules.{rules}
+use Rattle.tracks.specs.Tracks.{start}
+use Rattle.tracks.proofs.start.Goals as goal
+
+pub returns : goal.returns
+unfolding start
+returns c = rw (c.placed.ensures, c.none.ensures)

@@ -1,0 +1,8 @@
+-- `tracks::tallied` meets its contract: both sets of figures are reported.
+use borrow.Author.Rules.{rules}
+use Rattle.tracks.specs.Tracks.{tallied}
+use Rattle.tracks.proofs.tallied.Goals as goal
+
+pub returns : goal.returns
+unfolding tallied
+returns c = rw (c.reported-2.ensures, c.reported.ensures)
