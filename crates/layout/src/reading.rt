@@ -41,6 +41,7 @@ fn figures_in(s: &[u8], at: usize) -> Figures
 }
 
 // Edges of a form: 2 is solid.
+#[tactic(auto, unfolding(crate::specs::Reading::edges_in))]
 fn edges_in(form: u32, pre: u32, inner: u32, post: u32) -> Edges
     ensures { result ≡ edges_in form pre inner post }
 {
@@ -70,6 +71,7 @@ fn run_in(s: &[u8], at: usize) -> Run
 }
 
 // A label of a word: 0 inherits, 1 available, else unavailable.
+#[tactic(auto, unfolding(crate::specs::Reading::label_in))]
 fn label_in(word: u32) -> Label
     ensures { result ≡ label_in word }
 {
@@ -94,6 +96,7 @@ fn middle_in(s: &[u8], at: usize) -> Middle
 }
 
 // The track from `at` on.
+#[tactic(auto, unfolding(crate::specs::Reading::track_in))]
 pub fn track_in(s: &[u8], at: usize) -> Track
     requires { at + 216 ≤ length s.now }
     ensures { result ≡ track_in s.now at }
@@ -138,6 +141,7 @@ fn middle_words(s: &[u8], at: usize) -> bool
 }
 
 // Whether the words of the track from `at` on are ones that a writer makes.
+#[tactic(auto, unfolding(crate::specs::Reading::words_meet))]
 pub fn words_meet(s: &[u8], at: usize) -> bool
     requires { at + 216 ≤ length s.now }
     ensures { result ≡ words_meet s.now at }
