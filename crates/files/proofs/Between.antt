@@ -45,7 +45,7 @@ three_known v k =
       read =
           record {
             left_bytes = summary_bytes (made_of v.label v.first []);
-            middle_bytes_lem = k.bytes;
+            middle_bytes = k.bytes;
             right_bytes = summary_bytes (made_of v.label v.after []);
             left = nothing_read v v.first valid (omega (arith, valid.ordered, valid.within));
             middle = stretch_held k.bytes ∙ ap held_if k.read;

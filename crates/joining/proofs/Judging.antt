@@ -56,7 +56,7 @@ module _ (left right out : List ℕ) (at : ℕ) where
   owed :
       {answer : Joined} {after : List ℕ} (j : Judged) →
       judged left right (length out) at ≡ j → answer ≡ answer_of j → after ≡ left_of j out at → Outcome left right out at answer after
-  owed j e a b = record { answered = a ∙ ap answer_of (sym e); left_in_lem = b ∙ ap (λ k. left_of k out at) (sym e) }
+  owed j e a b = record { answered = a ∙ ap answer_of (sym e); left_in = b ∙ ap (λ k. left_of k out at) (sym e) }
 
   pub short_left :
       {answer : Joined} → (length left ≡ 1024 → ⊥) → answer ≡ Joined.Refused (refusal Fault.Length 0) → Outcome left right out at answer out

@@ -67,4 +67,4 @@ left_of (bad r) out at = out
 
 pub record Outcome (left right out : List ℕ) (at : ℕ) (answer : Joined) (after : List ℕ) : Type 0 where
   pub answered : answer ≡ answer_of (judged left right (length out) at)
-  pub left_in_lem : after ≡ left_of (judged left right (length out) at) out at
+  pub left_in : after ≡ left_of (judged left right (length out) at) out at

@@ -54,10 +54,10 @@ period_of a b c =
 -- three summaries, each of which is read out of bytes
 pub record ThreeRead (a b c : Stretch) : Type 0 where
   pub left_bytes : List ℕ
-  pub middle_bytes_lem : List ℕ
+  pub middle_bytes : List ℕ
   pub right_bytes : List ℕ
   pub left : stretch_of left_bytes ≡ StretchRead.Valid a
-  pub middle : stretch_of middle_bytes_lem ≡ StretchRead.Valid b
+  pub middle : stretch_of middle_bytes ≡ StretchRead.Valid b
   pub right : stretch_of right_bytes ≡ StretchRead.Valid c
 
 -- of equal label settings, each right behind the one before

@@ -121,7 +121,7 @@ reads_found w base s t u p StretchRead.Invalid y z f g h e = let z : ◌≡◌ {
 reads_found w base s t u p (StretchRead.Valid a) StretchRead.Invalid z f g h e = let z : ◌≡◌ {A = ℕ} 0 1 = cc in absurd (omega arith)
 reads_found w base s t u p (StretchRead.Valid a) (StretchRead.Valid b) StretchRead.Invalid f g h e = let z : ◌≡◌ {A = ℕ} 0 1 = cc in absurd (omega arith)
 reads_found w base s t u p (StretchRead.Valid a) (StretchRead.Valid b) (StretchRead.Valid c) f g h e =
-    three_found w base a b c p (record { left_bytes = s; middle_bytes_lem = t; right_bytes = u; left = f; middle = g; right = h }) e
+    three_found w base a b c p (record { left_bytes = s; middle_bytes = t; right_bytes = u; left = f; middle = g; right = h }) e
 
 pub answer_found : (w : Wanted) (s : List ℕ) (base : ℕ) (p : Period) → three_at w s base ≡ Reported.Answered p → Found p
 unfolding three_at

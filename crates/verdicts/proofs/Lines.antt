@@ -89,7 +89,7 @@ pub record Lines : Type 0 where
   pub composite_alone : six (of (settings 2 1000000 500001 0 4000001 0 0) (L ∷ L ∷ F ∷ F ∷ [])) ≡ 1 ∷ 2 ∷ 1 ∷ 1 ∷ 1 ∷ 1 ∷ []
   pub composite_met : six (of (settings 2 1000000 500000 0 4000001 0 0) (L ∷ L ∷ F ∷ F ∷ [])) ≡ 1 ∷ 1 ∷ 1 ∷ 1 ∷ 1 ∷ 1 ∷ []
   pub loss_alone : six (of (settings 2 500001 1000000 299999 1000 1 0) (L ∷ L ∷ G ∷ G ∷ [])) ≡ 2 ∷ 1 ∷ 2 ∷ 1 ∷ 2 ∷ 2 ∷ []
-  pub loss_met_lem : six (of (settings 2 500000 1000000 300000 1000 2 1) (L ∷ L ∷ G ∷ G ∷ [])) ≡ 1 ∷ 1 ∷ 1 ∷ 1 ∷ 1 ∷ 1 ∷ []
+  pub loss_met : six (of (settings 2 500000 1000000 300000 1000 2 1) (L ∷ L ∷ G ∷ G ∷ [])) ≡ 1 ∷ 1 ∷ 1 ∷ 1 ∷ 1 ∷ 1 ∷ []
   -- all undecided ones in maintenance, and nothing but such: W is 2, and 0
   pub maintained : six (of (settings 1 1000000 1000000 0 1000 0 0) (L ∷ L ∷ R ∷ R ∷ [])) ≡ 1 ∷ 1 ∷ 1 ∷ 1 ∷ 1 ∷ 1 ∷ []
   pub nothing_else : six (of (settings 1 1000000 1000000 0 0 0 0) (R ∷ R ∷ [])) ≡ 1 ∷ 1 ∷ 1 ∷ 1 ∷ 1 ∷ 1 ∷ []
@@ -120,7 +120,7 @@ lines =
       composite_alone = refl;
       composite_met = refl;
       loss_alone = refl;
-      loss_met_lem = refl;
+      loss_met = refl;
       maintained = refl;
       nothing_else = refl;
       all_undecided = refl;

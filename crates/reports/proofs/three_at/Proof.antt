@@ -43,7 +43,7 @@ judge-requires c κs = (
   c.before.before.before.before.before.before.before.before.before.before.before.before.before.requires,
   record {
     left_bytes = _;
-    middle_bytes_lem = _;
+    middle_bytes = _;
     right_bytes = _;
     left = sym c.before.before.before.before.before.before.before.before.before.before.before.summary-at.ensures ∙ c.before.before.before.before.before.before.before.before.before.a.given.1;
     middle = sym c.before.before.before.before.before.before.before.summary-at2.ensures ∙ c.before.before.before.before.before.b.given.1;

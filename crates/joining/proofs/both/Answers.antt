@@ -1,0 +1,25 @@
+-- `joining::both` meets its contract: the tracks of adjoining summaries fit together.
+use Rattle.joining.specs.Joining.{joined_of}
+use Rattle.joining.proofs.Judging.{loss_fits, composite_fits}
+use borrow.Author.Rules.{rules}
+use Rattle.joining.proofs.both.Goals as goal
+
+pub join-loss-requires : goal.join-loss-requires
+join-loss-requires c = loss_fits c.args.a c.args.b c.requires
+
+pub join-composite-requires : goal.join-composite-requires
+join-composite-requires c = composite_fits c.args.a c.args.b c.requires
+
+pub returns : goal.returns
+unfolding joined_of
+returns c =
+    let a = c.args.a in
+    let b = c.args.b in
+    λ i.
+    record {
+      first = a.first;
+      after = b.after;
+      label = a.label;
+      loss = c.join-loss.ensures i;
+      composite = c.join-composite.ensures i;
+    }

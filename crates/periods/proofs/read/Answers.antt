@@ -1,0 +1,11 @@
+-- `periods::read` meets its contract: it holds what is read.
+use mathlib.Core.Path.{sym, ap, ◌∙◌}
+use Rattle.periods.specs.Stretches.{held_if, stretch_held}
+use borrow.Author.Rules.{rules}
+use Rattle.periods.proofs.read.Goals as goal
+
+pub returns-in_default : goal.returns-in_default
+returns-in_default c = sym (stretch_held c.args.s.now ∙ ap held_if (sym c.read.ensures ∙ c.in_default.is))
+
+pub returns : goal.returns
+returns c = sym (stretch_held c.args.s.now ∙ ap held_if (sym c.read.ensures ∙ c.in-Valid.is))
