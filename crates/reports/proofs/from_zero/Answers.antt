@@ -1,0 +1,6 @@
+-- `reports::from_zero` meets its contract: it asks for the first number.
+use borrow.Author.Rules.{rules}
+use Rattle.reports.proofs.from_zero.Goals as goal
+
+pub returns : goal.returns
+returns c = rw c.first.ensures

@@ -1,0 +1,6 @@
+-- `reports::summary_at` meets its contract: it reads the part that is the record.
+use borrow.Author.Rules.{rules}
+use Rattle.reports.proofs.summary_at.Goals as goal
+
+pub returns : goal.returns
+returns c = rw (c.read.ensures, c.part.ensures)
