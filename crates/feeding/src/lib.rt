@@ -3,7 +3,7 @@
 // lent tail of 48 bytes for the next piece.
 #![tactic(auto)]
 
-ghost use Rattle.std.specs.Prelude.{◌≡◌, ◌+◌, ◌<◌, ◌^◌, length};
+ghost use Rattle.std.specs.Prelude.{◌≡◌, ◌+◌, ◌++◌, ◌<◌, ◌≤◌, ◌^◌, length, take, drop};
 ghost use Rattle.numbers.specs.Refusals.{refusal};
 ghost use Rattle.feeding.specs.Feeding.{Known, Ready, Growing, standing, grown, grown_by, begun, fed, filled, if_whole, finished_by};
 
@@ -94,6 +94,16 @@ pub fn start(settings: &[u8]) -> State
     }
 }
 
+// All of `from` copied to the start of `to`, and how many bytes that is.
+fn copy(from: &[u8], to: &mut [u8]) -> usize
+    requires { length from.now ≤ length to.old }
+    ensures count { result ≡ length from.now }
+    ensures after { to.new ≡ take (length from.now) from.now ++ drop (length from.now) to.old }
+{
+    to[..from.len()].copy_from_slice(from);
+    from.len()
+}
+
 // A piece where no record has begun: its whole records are taken in, and the rest of it waits.
 fn feed_whole(held: Held, tail: &mut [u8], piece: &[u8]) -> State
     requires { (length tail.old ≡ 48) × Growing held }
@@ -102,7 +112,7 @@ fn feed_whole(held: Held, tail: &mut [u8], piece: &[u8]) -> State
 {
     let whole = piece.len() / 48 * 48;
     let next = take_in(held, &piece[..whole]);
-    let left = bytes::copy(&piece[whole..], tail);
+    let left = copy(&piece[whole..], tail);
     State { held: next, left }
 }
 
@@ -119,13 +129,13 @@ pub fn feed(state: State, tail: &mut [u8], piece: &[u8]) -> State
     }
     let room = 48 - left;
     if piece.len() < room {
-        let more = bytes::copy(piece, &mut tail[left..]);
+        let more = copy(piece, &mut tail[left..]);
         return State {
             held,
             left: left + more,
         };
     }
-    bytes::copy(&piece[..room], &mut tail[left..]);
+    copy(&piece[..room], &mut tail[left..]);
     let next = take_in(held, tail);
     feed_whole(next, tail, &piece[room..])
 }

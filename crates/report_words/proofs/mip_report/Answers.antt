@@ -1,0 +1,22 @@
+-- `mip_report` meets its contract: each of its ways out is the outcome under the tests that led there.
+use mathlib.Core.Path.{sym, ◌∙◌}
+use borrow.Author.Rules.{rules}
+use native.Mathlib.Omega.{arith}
+use Rattle.reports.proofs.Places.{report_place}
+use Rattle.report_words.proofs.Judged.{report_length, report_short, report_refused, report_answered}
+use Rattle.report_words.proofs.mip_report.Goals as goal
+
+pub returns-then-summaries-ne3072 : goal.returns-then-summaries-ne3072
+returns-then-summaries-ne3072 c = report_length _ _ _ c.if-summaries-ne3072.true c.refused.ensures
+
+pub returns-then-figures-lt15 : goal.returns-then-figures-lt15
+returns-then-figures-lt15 c = report_short _ _ c.if-summaries-ne3072.false _ c.if-figures-lt15.true c.refused-then-figures-lt15.ensures
+
+pub word-requires : goal.word-requires
+word-requires c = omega (arith, report_place _ _ (sym c.report.ensures ∙ c.in-Refused.is))
+
+pub returns-in-Refused : goal.returns-in-Refused
+returns-in-Refused c = report_refused _ _ c.if-summaries-ne3072.false c.if-figures-lt15.false _ _ (sym c.report.ensures ∙ c.in-Refused.is) c.word.ensures
+
+pub returns-in-Answered : goal.returns-in-Answered
+returns-in-Answered c = report_answered _ _ c.if-summaries-ne3072.false c.if-figures-lt15.false _ _ (sym c.report.ensures ∙ c.in-Answered.is) c.put_report.ensures

@@ -1,0 +1,54 @@
+-- `sets::of_pairs` meets its contract. The loop's invariant: the whole outcome is what the pairs from k on give after those passed.
+use mathlib.Core.Path.{sym, ◌∙◌}
+use Prim.Native.Nat.{◌-◌}
+use native.Mathlib.Omega.{arith}
+use borrow.Author.Rules.{rules}
+use Rattle.numbers.specs.Limits.{pairs}
+use Rattle.settings.proofs.SettingsRecord.{settings_valid}
+use Rattle.verdicts.proofs.Fitting.{judgeable}
+use Rattle.periods.specs.Stretches.{label_of}
+use Rattle.reports.proofs.Judging.{answer_found, found_bounded}
+use Rattle.sets.proofs.Going.{Going, going_start, going_refused, going_next, going_done}
+use Rattle.sets.proofs.of_pairs.Goals as goal
+
+pub loop-k-init : goal.loop-k-init
+loop-k-init c =
+    let a = c.args in
+    going_start a.v a.s.now a.n _ c.nothing-all.ensures
+
+pub overflow_mul-k : goal.overflow_mul-k
+unfolding pairs
+overflow_mul-k c = omega (arith, c.requires.few)
+
+pub three_at-requires : goal.three_at-requires
+three_at-requires c = omega (arith, c.requires.few)
+
+pub returns-in-Refused : goal.returns-in-Refused
+returns-in-Refused c =
+    let a = c.args in
+    let o = c.loop-k in
+    sym (going_refused a.v a.s.now a.n o.k o.all o.invariant c.in-Refused.r (omega arith) (sym c.three_at.ensures ∙ c.in-Refused.is))
+
+pub verdicts_of-one-requires : goal.verdicts_of-one-requires
+verdicts_of-one-requires c =
+    let p = c.in-Answered.p in
+    let f = answer_found _ _ _ p (sym c.three_at.ensures ∙ c.in-Answered.is) in
+    judgeable c.args.v (label_of f.b).p p (settings_valid c.requires.bytes c.args.v c.requires.read) (found_bounded p f)
+
+pub overflow_add-k : goal.overflow_add-k
+unfolding pairs
+overflow_add-k c = omega (arith, c.loop-k-test, c.requires.few)
+
+pub loop-k-preserved : goal.loop-k-preserved
+loop-k-preserved c =
+    let a = c.args in
+    let o = c.loop-k in
+    going_next a.v a.s.now a.n o.k o.all o.invariant c.in-Answered.p _ (omega arith)
+    (sym c.three_at.ensures ∙ c.in-Answered.is)
+    (rw (c.both-all.ensures, c.verdicts_of-one.ensures))
+
+pub returns : goal.returns
+returns c =
+    let a = c.args in
+    let o = c.loop-k in
+    sym (going_done a.v a.s.now a.n o.k o.all o.invariant (omega arith))

@@ -1,0 +1,17 @@
+-- `mip_join` meets its contract: it says what `join` answers as a word, and the place fits.
+use mathlib.Core.Path.{ap, sym, ◌∙◌}
+use borrow.Author.Rules.{rules}
+use Rattle.summary_words.specs.SummaryList.{joined_word}
+use Rattle.summary_words.proofs.Summarised.{join_fits, join_word}
+use Rattle.summary_words.proofs.mip_join.Goals as goal
+
+pub word-requires : goal.word-requires
+word-requires c = join_fits _ _ _ _ _ _ c.join.ensures c.in-Refused.is
+
+pub returns-in-Written : goal.returns-in-Written
+returns-in-Written c = join_word _ _ _ _ _ _ c.join.ensures (sym (ap joined_word c.in-Written.is))
+
+pub returns-in-Refused : goal.returns-in-Refused
+returns-in-Refused c =
+    join_word _ _ _ _ _ _ c.join.ensures
+    (c.word.ensures ∙ sym (ap joined_word c.in-Refused.is))
