@@ -1,13 +1,33 @@
 // The lines of a text, the words of a line, and the numbers that words are. Words stand between single spaces, so that a word may be empty; what is past
 // the last is empty too.
-ghost use Rattle.std.specs.Prelude.{◌≤◌, length};
+ghost use Rattle.std.specs.Prelude.{◌≤◌, length, IfOk};
 
 use numbers::bytes;
-use std::num;
+use std::io::{ErrorKind, Read};
+use std::{io, num};
 
 const SPACE: u8 = b' ';
 
 const END: u8 = b'\n';
+
+// Reads until `text` is full or the input ends, and says how many bytes that is. A read that a signal interrupts has read nothing.
+pub fn read_full(input: &mut impl Read, text: &mut [u8]) -> io::Result<usize>
+    ensures { IfOk result (λ n. n ≤ length text.new) }
+{
+    let mut done: usize = 0;
+    for _ in 0..u64::MAX {
+        match input.read(&mut text[done..]) {
+            Ok(0) => return Ok(done),
+            Ok(n) => done += n,
+            Err(e) => {
+                if e.kind() != ErrorKind::Interrupted {
+                    return Err(e);
+                }
+            }
+        }
+    }
+    Ok(done)
+}
 
 fn bit(b: bool) -> usize {
     if b { 1 } else { 0 }

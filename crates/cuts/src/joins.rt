@@ -7,6 +7,7 @@ use cases::{circuit, lines, printing};
 use joining::Joined;
 use making::Made;
 use numbers::bytes;
+use std::io;
 
 // The summary of the records from the `a`-th on to before the `b`-th.
 fn stretch(s: &[u8], records: &[u8], a: usize, b: usize) -> [u8; 1024] {
@@ -73,46 +74,50 @@ fn in_pairs(s: &[u8], records: &[u8], count: usize) -> [u8; 1024]
     and_after(s, records, held, count / 2 * 2, count)
 }
 
-fn show_same(whole: &[u8], other: [u8; 1024]) {
-    printing::bit(check::same(whole, &other));
+fn show_same(rt: &impl Print, whole: &[u8], other: [u8; 1024]) -> io::Result<()> {
+    printing::bit(rt, check::same(whole, &other))
 }
 
-fn grouped(s: &[u8], records: &[u8], count: usize)
+fn grouped(rt: &impl Print, s: &[u8], records: &[u8], count: usize) -> io::Result<()>
     requires { count ≤ 72 }
 {
     let whole = stretch(s, records, 0, count);
-    printing::space();
-    show_same(&whole, from_left(s, records, count));
-    show_same(&whole, from_right(s, records, count));
-    show_same(&whole, in_pairs(s, records, count));
-    printing::number(bytes::get_u32(&whole, 4) as u64);
-    printing::end();
+    printing::space(rt)?;
+    show_same(rt, &whole, from_left(s, records, count))?;
+    show_same(rt, &whole, from_right(s, records, count))?;
+    show_same(rt, &whole, in_pairs(s, records, count))?;
+    printing::number(rt, bytes::get_u32(&whole, 4) as u64)?;
+    printing::end(rt)
 }
 
 // Letters, n and p.
-pub fn line(case: &[u8]) {
+pub fn line(rt: &impl Print, case: &[u8]) -> io::Result<()> {
     let letters = lines::word(case, 1);
     let s = circuit::settings_at(case, 2);
     let mut records = [0u8; RECORDS];
     circuit::put_records(&mut records, letters);
-    printing::text(lines::rest(case, 1));
+    printing::text(rt, lines::rest(case, 1))?;
     if letters.len() <= 72 {
-        grouped(&s, &records, letters.len());
+        grouped(rt, &s, &records, letters.len())?;
     }
+    Ok(())
 }
 
-fn show_made(m: Made) {
+fn show_made(rt: &impl Print, m: Made) -> io::Result<()> {
     match m {
-        Made::Written => printing::text(b": written"),
-        Made::Refused(r) => printing::refused(r),
+        Made::Written => printing::text(rt, b": written")?,
+        Made::Refused(r) => printing::refused(rt, r)?,
     }
-    printing::end();
+    printing::end(rt)
 }
 
 // No records from the number that is the fourth word on.
-pub fn none(case: &[u8]) {
+pub fn none(rt: &impl Print, case: &[u8]) -> io::Result<()> {
     let s = circuit::settings(3, 2);
     let mut out = [0u8; 1024];
-    printing::text(lines::rest(case, 1));
-    show_made(making::summary(&s, lines::get_u64(case, 4), b"", &mut out, 0));
+    printing::text(rt, lines::rest(case, 1))?;
+    show_made(
+        rt,
+        making::summary(&s, lines::get_u64(case, 4), b"", &mut out, 0),
+    )
 }

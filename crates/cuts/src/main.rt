@@ -8,31 +8,33 @@ mod sets_of;
 mod stretches;
 
 use cases::{lines, printing};
-use libc::STDIN_FILENO;
+use std::io;
 
-fn one(case: &[u8]) {
+fn one(rt: &impl Print, case: &[u8]) -> io::Result<()> {
     match lines::letter(case, 0) {
-        b't' => printing::line(lines::rest(case, 1)),
-        b'j' => joins::line(case),
-        b'n' => joins::none(case),
-        b'r' => periods_of::line(case),
-        b'o' => periods_of::objective(case),
-        b's' => sets_of::two(case),
-        b'p' => sets_of::pairs(case),
-        b'w' => sets_of::places(case),
-        b'f' => sets_of::fifteen_of_seventeen(case),
+        b't' => printing::line(rt, lines::rest(case, 1))?,
+        b'j' => joins::line(rt, case)?,
+        b'n' => joins::none(rt, case)?,
+        b'r' => periods_of::line(rt, case)?,
+        b'o' => periods_of::objective(rt, case)?,
+        b's' => sets_of::two(rt, case)?,
+        b'p' => sets_of::pairs(rt, case)?,
+        b'w' => sets_of::places(rt, case)?,
+        b'f' => sets_of::fifteen_of_seventeen(rt, case)?,
         _ => (),
     }
+    Ok(())
 }
 
-fn run(text: &[u8]) {
+fn run(rt: &impl Print, text: &[u8]) -> io::Result<()> {
     for k in 0..lines::count(text) {
-        one(lines::line(text, k));
+        one(rt, lines::line(text, k))?;
     }
+    Ok(())
 }
 
-fn main() {
+fn main(rt: HostRuntime) -> io::Result<()> {
     let mut text = [0u8; 8192];
-    let n = io::read_full(STDIN_FILENO, &mut text);
-    run(&text[..n]);
+    let n = lines::read_full(&mut rt.reader(), &mut text)?;
+    run(&rt, &text[..n])
 }

@@ -7,70 +7,78 @@ use cases::{circuit, lines, printing};
 use numbers::bytes;
 use reports::Reported;
 use sets::Judged;
+use std::io;
 use tallies::Period;
 use verdicts::{Verdict, Verdicts};
 
-fn show_loss(r: Period) {
+fn show_loss(rt: &impl Print, r: Period) -> io::Result<()> {
     let t = r.loss;
     let a = t.available;
     let u = t.undecided;
-    printing::two(r.length as u64, r.maintenance as u64);
-    printing::bar();
-    printing::three(a.count as u64, t.unavailable as u64, u.count as u64);
-    printing::bar();
-    printing::two(a.high as u64, a.runs as u64);
+    printing::two(rt, r.length as u64, r.maintenance as u64)?;
+    printing::bar(rt)?;
+    printing::three(rt, a.count as u64, t.unavailable as u64, u.count as u64)?;
+    printing::bar(rt)?;
+    printing::two(rt, a.high as u64, a.runs as u64)
 }
 
-fn show_rest(r: Period) {
+fn show_rest(rt: &impl Print, r: Period) -> io::Result<()> {
     let t = r.loss;
     let a = t.available;
     let c = r.composite;
-    printing::bar();
-    printing::two(a.sent, a.lost);
-    printing::bar();
-    printing::three(a.sum, a.least as u64, a.most as u64);
-    printing::bar();
-    printing::three(c.available as u64, c.unavailable as u64, c.undecided as u64);
+    printing::bar(rt)?;
+    printing::two(rt, a.sent, a.lost)?;
+    printing::bar(rt)?;
+    printing::three(rt, a.sum, a.least as u64, a.most as u64)?;
+    printing::bar(rt)?;
+    printing::three(
+        rt,
+        c.available as u64,
+        c.unavailable as u64,
+        c.undecided as u64,
+    )
 }
 
-pub fn show_report(three: &[u8]) {
+pub fn show_report(rt: &impl Print, three: &[u8]) -> io::Result<()> {
     match reports::report(three) {
         Reported::Answered(r) => {
-            show_loss(r);
-            show_rest(r);
+            show_loss(rt, r)?;
+            show_rest(rt, r)?;
         }
-        Reported::Refused(r) => printing::refused(r),
+        Reported::Refused(r) => printing::refused(rt, r)?,
     }
+    Ok(())
 }
 
 // A verdict as a digit: 0 not met, 1 met, 2 not yet.
-fn show_verdict(v: Verdict) {
-    printing::plain(verdicts::number(v));
+fn show_verdict(rt: &impl Print, v: Verdict) -> io::Result<()> {
+    printing::plain(rt, verdicts::number(v))
 }
 
-pub fn show_verdicts(v: Verdicts) {
+pub fn show_verdicts(rt: &impl Print, v: Verdicts) -> io::Result<()> {
     let availability = v.availability;
     let composite = v.composite;
     let loss = v.loss;
     let mean = v.mean;
     let high = v.high;
     let runs = v.runs;
-    printing::space();
-    show_verdict(availability);
-    show_verdict(composite);
-    show_verdict(loss);
-    show_verdict(mean);
-    show_verdict(high);
-    show_verdict(runs);
+    printing::space(rt)?;
+    show_verdict(rt, availability)?;
+    show_verdict(rt, composite)?;
+    show_verdict(rt, loss)?;
+    show_verdict(rt, mean)?;
+    show_verdict(rt, high)?;
+    show_verdict(rt, runs)
 }
 
-pub fn show_set(s: &[u8], pairs: u64, summaries: &[u8]) {
+pub fn show_set(rt: &impl Print, s: &[u8], pairs: u64, summaries: &[u8]) -> io::Result<()> {
     match sets::verdicts(s, pairs, summaries) {
         Judged::Answered(v) => {
-            show_verdicts(v);
+            show_verdicts(rt, v)?;
         }
-        Judged::Refused(r) => printing::refused(r),
+        Judged::Refused(r) => printing::refused(rt, r)?,
     }
+    Ok(())
 }
 
 fn put_cut(s: &[u8], records: &[u8], a: usize, b: usize, count: usize, out: &mut [u8], at: usize)
@@ -90,15 +98,15 @@ pub fn put_three(s: &[u8], letters: &[u8], a: usize, b: usize, out: &mut [u8], a
     put_cut(s, &records, a, b, letters.len(), out, at);
 }
 
-fn show(s: &[u8], three: &[u8]) {
-    show_report(three);
-    printing::bar();
-    show_set(s, 1, three);
-    printing::end();
+fn show(rt: &impl Print, s: &[u8], three: &[u8]) -> io::Result<()> {
+    show_report(rt, three)?;
+    printing::bar(rt)?;
+    show_set(rt, s, 1, three)?;
+    printing::end(rt)
 }
 
 // n, p, letters, a and b: the report of the intervals from the `a`-th on to before the `b`-th, and its verdicts.
-pub fn line(case: &[u8]) {
+pub fn line(rt: &impl Print, case: &[u8]) -> io::Result<()> {
     let s = circuit::settings_at(case, 1);
     let mut three = [0u8; 3072];
     put_three(
@@ -109,8 +117,8 @@ pub fn line(case: &[u8]) {
         &mut three,
         0,
     );
-    printing::head(lines::rest(case, 3));
-    show(&s, &three);
+    printing::head(rt, lines::rest(case, 3))?;
+    show(rt, &s, &three)
 }
 
 // Settings with n = 3, the first three objectives at one half and the mean delay at 1,000 ns, and then one field at another value.
@@ -125,20 +133,20 @@ fn with_field(p: u8, at: usize, value: u32) -> [u8; 64] {
 }
 
 // p, a field's place in settings, letters, the field's name and its value: the verdicts on all of the intervals.
-pub fn objective(case: &[u8]) {
+pub fn objective(rt: &impl Print, case: &[u8]) -> io::Result<()> {
     let s = with_field(
         lines::get_u8(case, 1),
         lines::get_usize(case, 2),
         lines::get_u32(case, 5),
     );
-    printing::head(lines::rest(case, 3));
-    verdict_line(&s, lines::word(case, 3));
+    printing::head(rt, lines::rest(case, 3))?;
+    verdict_line(rt, &s, lines::word(case, 3))
 }
 
 // The verdicts on all of the intervals.
-pub fn verdict_line(s: &[u8], letters: &[u8]) {
+pub fn verdict_line(rt: &impl Print, s: &[u8], letters: &[u8]) -> io::Result<()> {
     let mut three = [0u8; 3072];
     put_three(s, letters, 0, letters.len(), &mut three, 0);
-    show_set(s, 1, &three);
-    printing::end();
+    show_set(rt, s, 1, &three)?;
+    printing::end(rt)
 }

@@ -3,31 +3,31 @@ use crate::{periods_of, stretches};
 use cases::circuit::RECORDS;
 use cases::{circuit, lines, printing};
 use numbers::{bytes, many};
-use std::num;
+use std::{io, num};
 
 // Available 15 of 17; the fifth word is the objective.
-pub fn fifteen_of_seventeen(case: &[u8]) {
+pub fn fifteen_of_seventeen(rt: &impl Print, case: &[u8]) -> io::Result<()> {
     let mut s = circuit::settings(2, 0);
     bytes::put_u32(&mut s, 24, lines::get_u32(case, 5));
-    printing::head(lines::rest(case, 1));
-    periods_of::verdict_line(&s, b"LLLLHHLLLLLLLLLLL");
+    printing::head(rt, lines::rest(case, 1))?;
+    periods_of::verdict_line(rt, &s, b"LLLLHHLLLLLLLLLLL")
 }
 
 // An objective's place in settings, the letters of two pairs, the objective's name and its value; the others are 0.
-pub fn two(case: &[u8]) {
+pub fn two(rt: &impl Print, case: &[u8]) -> io::Result<()> {
     let mut s = circuit::settings(3, 2);
     bytes::put_u32(&mut s, lines::get_usize(case, 1), lines::get_u32(case, 5));
-    printing::head(lines::rest(case, 2));
-    both(&s, lines::word(case, 2), lines::word(case, 3));
+    printing::head(rt, lines::rest(case, 2))?;
+    both(rt, &s, lines::word(case, 2), lines::word(case, 3))
 }
 
 // The verdicts of two pairs, the whole of each one's letters the period.
-fn both(s: &[u8], first: &[u8], second: &[u8]) {
+fn both(rt: &impl Print, s: &[u8], first: &[u8], second: &[u8]) -> io::Result<()> {
     let mut six = [0u8; 6144];
     periods_of::put_three(s, first, 0, first.len(), &mut six, 0);
     periods_of::put_three(s, second, 0, second.len(), &mut six, 3072);
-    periods_of::show_set(s, 2, &six);
-    printing::end();
+    periods_of::show_set(rt, s, 2, &six)?;
+    printing::end(rt)
 }
 
 // The number that the `k`-th letter of a word is.
@@ -62,28 +62,28 @@ fn put_six(records: &[u8], case: &[u8], out: &mut [u8]) {
 }
 
 // What the report of the first pair and the verdicts of both pairs give.
-fn show_six(six: &[u8]) {
+fn show_six(rt: &impl Print, six: &[u8]) -> io::Result<()> {
     let s = circuit::settings(3, 2);
-    periods_of::show_report(many::part(six, 3072, 0));
-    printing::bar();
-    periods_of::show_set(&s, 2, six);
-    printing::end();
+    periods_of::show_report(rt, many::part(six, 3072, 0))?;
+    printing::bar(rt)?;
+    periods_of::show_set(rt, &s, 2, six)?;
+    printing::end(rt)
 }
 
 // Six summaries, each a word: with one or more of them at fault, the refusal and its place.
-pub fn places(case: &[u8]) {
+pub fn places(rt: &impl Print, case: &[u8]) -> io::Result<()> {
     let mut records = [0u8; RECORDS];
     circuit::put_records(&mut records, b"LLLLLLLLL");
     let mut six = [0u8; 6144];
     put_six(&records, case, &mut six);
-    printing::head(lines::rest(case, 1));
-    show_six(&six);
+    printing::head(rt, lines::rest(case, 1))?;
+    show_six(rt, &six)
 }
 
 // A number of pairs that is refused, or does not fit the bytes.
-pub fn pairs(case: &[u8]) {
+pub fn pairs(rt: &impl Print, case: &[u8]) -> io::Result<()> {
     let s = circuit::settings(3, 2);
     let count = lines::get_u64(case, 1);
-    printing::number(count);
-    periods_of::show_set(&s, count, b"");
+    printing::number(rt, count)?;
+    periods_of::show_set(rt, &s, count, b"")
 }

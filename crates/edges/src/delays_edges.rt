@@ -5,6 +5,7 @@ ghost use Rattle.std.specs.Prelude.{◌≤◌, length};
 use cases::{circuit, lines, printing};
 use delays::Outcome;
 use numbers::bytes;
+use std::io;
 
 // Settings with these objectives for percentile and range.
 fn settings(pr: u32, delay: u32, range: u32) -> [u8; 64] {
@@ -15,17 +16,17 @@ fn settings(pr: u32, delay: u32, range: u32) -> [u8; 64] {
     s
 }
 
-fn show(s: [u8; 64], list: &[u32]) {
+fn show(rt: &impl Print, s: [u8; 64], list: &[u32]) -> io::Result<()> {
     match delays::delays(&s, list) {
-        Outcome::Refused(r) => printing::refused(r),
+        Outcome::Refused(r) => printing::refused(rt, r)?,
         Outcome::Answered(f) => {
-            printing::two(f.percentile as u64, f.range as u64);
-            printing::space();
-            printing::bit(f.percentile_met);
-            printing::bit(f.range_met);
+            printing::two(rt, f.percentile as u64, f.range as u64)?;
+            printing::space(rt)?;
+            printing::bit(rt, f.percentile_met)?;
+            printing::bit(rt, f.range_met)?;
         }
     }
-    printing::end();
+    printing::end(rt)
 }
 
 // The numbers from the fifth word on.
@@ -37,7 +38,7 @@ fn put_list(list: &mut [u32], case: &[u8], count: usize)
     }
 }
 
-fn show_list(case: &[u8], count: usize)
+fn show_list(rt: &impl Print, case: &[u8], count: usize) -> io::Result<()>
     requires { count ≤ 9 }
 {
     let s = settings(
@@ -47,14 +48,15 @@ fn show_list(case: &[u8], count: usize)
     );
     let mut list = [0u32; 9];
     put_list(&mut list, case, count);
-    show(s, &list[0..count]);
+    show(rt, s, &list[0..count])
 }
 
 // Pr, both objectives, how many delays, the delays, and the case's name.
-pub fn line(case: &[u8]) {
+pub fn line(rt: &impl Print, case: &[u8]) -> io::Result<()> {
     let count = lines::get_usize(case, 4);
     if count <= 9 {
-        printing::text(lines::rest(case, 5 + count));
-        show_list(case, count);
+        printing::text(rt, lines::rest(case, 5 + count))?;
+        show_list(rt, case, count)?;
     }
+    Ok(())
 }

@@ -8,7 +8,7 @@ mod measure_edges;
 mod records_edges;
 
 use cases::{lines, printing};
-use libc::STDIN_FILENO;
+use std::io;
 
 // The bytes that are held once this case was read.
 fn next(held: [u8; 128], case: &[u8]) -> [u8; 128] {
@@ -20,32 +20,34 @@ fn next(held: [u8; 128], case: &[u8]) -> [u8; 128] {
     }
 }
 
-fn show(held: [u8; 128], case: &[u8]) {
+fn show(rt: &impl Print, held: [u8; 128], case: &[u8]) -> io::Result<()> {
     match lines::letter(case, 0) {
-        b't' => printing::line(lines::rest(case, 1)),
-        b'l' => records_edges::lengths(held, case),
-        b'f' => records_edges::field(held, case),
-        b's' => records_edges::spare(held, case),
-        b'i' => measure_edges::interval(held, case),
-        b'm' => measure_edges::many_frames(case),
-        b'd' => delays_edges::line(case),
-        b'e' => labels_edges::line(case),
+        b't' => printing::line(rt, lines::rest(case, 1))?,
+        b'l' => records_edges::lengths(rt, held, case)?,
+        b'f' => records_edges::field(rt, held, case)?,
+        b's' => records_edges::spare(rt, held, case)?,
+        b'i' => measure_edges::interval(rt, held, case)?,
+        b'm' => measure_edges::many_frames(rt, case)?,
+        b'd' => delays_edges::line(rt, case)?,
+        b'e' => labels_edges::line(rt, case)?,
         _ => (),
     }
+    Ok(())
 }
 
-fn run(text: &[u8]) {
+fn run(rt: &impl Print, text: &[u8]) -> io::Result<()> {
     let mut held = [0u8; 128];
     for k in 0..lines::count(text) {
         let case = lines::line(text, k);
         let more = next(held, case);
         held = more;
-        show(held, case);
+        show(rt, held, case)?;
     }
+    Ok(())
 }
 
-fn main() {
+fn main(rt: HostRuntime) -> io::Result<()> {
     let mut text = [0u8; 8192];
-    let n = io::read_full(STDIN_FILENO, &mut text);
-    run(&text[..n]);
+    let n = lines::read_full(&mut rt.reader(), &mut text)?;
+    run(&rt, &text[..n])
 }

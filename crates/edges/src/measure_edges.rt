@@ -2,6 +2,7 @@
 use cases::{circuit, lines, printing};
 use measure::Answer;
 use numbers::{bytes, many};
+use std::io;
 
 // Room for one frame more than an interval takes.
 const ROOM: usize = 16_400;
@@ -46,47 +47,47 @@ fn put_all(frames: &mut [u8]) {
 }
 
 // What the frames give as interval `number`.
-fn show(frames: &[u8], number: u64, maintenance: u64) {
+fn show(rt: &impl Print, frames: &[u8], number: u64, maintenance: u64) -> io::Result<()> {
     let s = settings();
     let mut out = [7u8; 50];
     let answer = measure::interval(&s, frames, number, maintenance, &mut out, 1);
-    show_answer(answer, &out);
+    show_answer(rt, answer, &out)
 }
 
-fn show_answer(answer: Answer, out: &[u8]) {
+fn show_answer(rt: &impl Print, answer: Answer, out: &[u8]) -> io::Result<()> {
     match answer {
-        Answer::Written => show_record(out),
-        Answer::Refused(r) => printing::refused(r),
+        Answer::Written => show_record(rt, out)?,
+        Answer::Refused(r) => printing::refused(rt, r)?,
     }
-    show_ends(out);
+    show_ends(rt, out)
 }
 
 // A point where the bytes before and behind the record are as they were.
-fn show_ends(out: &[u8]) {
+fn show_ends(rt: &impl Print, out: &[u8]) -> io::Result<()> {
     if bytes::get_u8(out, 0) == 7 {
         if bytes::get_u8(out, 49) == 7 {
-            printing::text(b".");
+            printing::text(rt, b".")?;
         }
     }
-    printing::end();
+    printing::end(rt)
 }
 
-fn show_u32(out: &[u8], at: usize) {
-    printing::number(bytes::get_u32(out, at) as u64);
+fn show_u32(rt: &impl Print, out: &[u8], at: usize) -> io::Result<()> {
+    printing::number(rt, bytes::get_u32(out, at) as u64)
 }
 
-fn show_record(out: &[u8]) {
-    printing::text(b":");
-    show_u32(out, 1);
-    show_u32(out, 5);
-    show_u32(out, 9);
-    show_u32(out, 13);
-    show_u32(out, 17);
-    show_u32(out, 21);
-    printing::number(bytes::get_u64(out, 25));
-    show_u32(out, 33);
-    show_u32(out, 37);
-    printing::number(bytes::get_u8(out, 41) as u64);
+fn show_record(rt: &impl Print, out: &[u8]) -> io::Result<()> {
+    printing::text(rt, b":")?;
+    show_u32(rt, out, 1)?;
+    show_u32(rt, out, 5)?;
+    show_u32(rt, out, 9)?;
+    show_u32(rt, out, 13)?;
+    show_u32(rt, out, 17)?;
+    show_u32(rt, out, 21)?;
+    printing::number(rt, bytes::get_u64(out, 25))?;
+    show_u32(rt, out, 33)?;
+    show_u32(rt, out, 37)?;
+    printing::number(rt, bytes::get_u8(out, 41) as u64)
 }
 
 // As many of the frames as the first word says.
@@ -95,19 +96,20 @@ fn first<'a>(frames: &'a [u8], case: &[u8]) -> &'a [u8] {
 }
 
 // How many of the frames that are held, the interval's number, maintenance, and the case's name.
-pub fn interval(b: [u8; 128], case: &[u8]) {
-    printing::text(lines::rest(case, 4));
+pub fn interval(rt: &impl Print, b: [u8; 128], case: &[u8]) -> io::Result<()> {
+    printing::text(rt, lines::rest(case, 4))?;
     show(
+        rt,
         first(&b, case),
         lines::get_u64(case, 2),
         lines::get_u64(case, 3),
-    );
+    )
 }
 
 // How many of as many frames as there is room for, and the case's name.
-pub fn many_frames(case: &[u8]) {
+pub fn many_frames(rt: &impl Print, case: &[u8]) -> io::Result<()> {
     let mut frames = [0u8; ROOM];
     put_all(&mut frames);
-    printing::text(lines::rest(case, 2));
-    show(first(&frames, case), 0, 0);
+    printing::text(rt, lines::rest(case, 2))?;
+    show(rt, first(&frames, case), 0, 0)
 }

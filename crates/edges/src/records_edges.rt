@@ -7,6 +7,7 @@ use frames::FrameRead;
 use intervals::IntervalRead;
 use numbers::{bytes, many};
 use settings::SettingsRead;
+use std::io;
 
 // The kinds of records, by the first letter. A record stands at the front of 128 bytes.
 const SETTINGS: u8 = b's';
@@ -72,68 +73,72 @@ pub fn put(b: [u8; 128], case: &[u8], k: usize) -> [u8; 128] {
     r
 }
 
-fn show_read(kind: u8, b: [u8; 128]) {
-    printing::bit(front(kind, &b, size(kind)));
+fn show_read(rt: &impl Print, kind: u8, b: [u8; 128]) -> io::Result<()> {
+    printing::bit(rt, front(kind, &b, size(kind)))
 }
 
 // The record with each of the numbers from the fifth word on.
-fn field_bits(b: [u8; 128], case: &[u8], count: usize)
+fn field_bits(rt: &impl Print, b: [u8; 128], case: &[u8], count: usize) -> io::Result<()>
     requires { count ≤ 9 }
 {
     let kind = lines::letter(case, 3);
     for k in 0..count {
-        show_read(kind, put(b, case, 5 + k));
+        show_read(rt, kind, put(b, case, 5 + k))?;
     }
+    Ok(())
 }
 
 // Width, place, kind, how many numbers, the numbers, and the field's name.
-pub fn field(b: [u8; 128], case: &[u8]) {
+pub fn field(rt: &impl Print, b: [u8; 128], case: &[u8]) -> io::Result<()> {
     let count = lines::get_usize(case, 4);
     if count <= 9 {
-        printing::text(lines::rest(case, 5 + count));
-        printing::space();
-        field_bits(b, case, count);
-        printing::end();
+        printing::text(rt, lines::rest(case, 5 + count))?;
+        printing::space(rt)?;
+        field_bits(rt, b, case, count)?;
+        printing::end(rt)?;
     }
+    Ok(())
 }
 
-fn with_one(kind: u8, b: [u8; 128], at: usize) {
+fn with_one(rt: &impl Print, kind: u8, b: [u8; 128], at: usize) -> io::Result<()> {
     let mut r = b;
     bytes::put_u8(&mut r, at, 1);
-    show_read(kind, r);
+    show_read(rt, kind, r)
 }
 
 // Each byte from `from` to before `to` set to 1.
-fn spare_bits(kind: u8, b: [u8; 128], from: usize, to: usize) {
+fn spare_bits(rt: &impl Print, kind: u8, b: [u8; 128], from: usize, to: usize) -> io::Result<()> {
     for at in from..to {
-        with_one(kind, b, at);
+        with_one(rt, kind, b, at)?;
     }
+    Ok(())
 }
 
 // Kind, the first spare byte and the one behind the last.
-pub fn spare(b: [u8; 128], case: &[u8]) {
-    printing::text(b"spare ");
+pub fn spare(rt: &impl Print, b: [u8; 128], case: &[u8]) -> io::Result<()> {
+    printing::text(rt, b"spare ")?;
     spare_bits(
+        rt,
         lines::letter(case, 1),
         b,
         lines::get_usize(case, 2),
         lines::get_usize(case, 3),
-    );
-    printing::end();
+    )?;
+    printing::end(rt)
 }
 
 // Each length from 0 to twice the record.
-fn length_bits(kind: u8, s: &[u8], twice: usize) {
+fn length_bits(rt: &impl Print, kind: u8, s: &[u8], twice: usize) -> io::Result<()> {
     for len in 0..twice {
-        printing::bit(front(kind, s, len));
+        printing::bit(rt, front(kind, s, len))?;
     }
-    printing::bit(front(kind, s, twice));
+    printing::bit(rt, front(kind, s, twice))
 }
 
 // Kind.
-pub fn lengths(b: [u8; 128], case: &[u8]) {
+pub fn lengths(rt: &impl Print, b: [u8; 128], case: &[u8]) -> io::Result<()> {
     let kind = lines::letter(case, 1);
-    printing::text(b"lengths ");
-    length_bits(kind, &b, 2 * size(kind));
-    printing::end();
+    printing::text(rt, b"lengths ")?;
+    length_bits(rt, kind, &b, 2 * size(kind))?;
+    printing::end(rt)
 }

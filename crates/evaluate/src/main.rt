@@ -6,20 +6,22 @@ mod output;
 mod reading;
 
 use reading::{Filled, Intervals};
+use std::io;
+use std::rt::Files;
 
 // The intervals, by the settings that were read.
-fn evaluate(settings: &[u8]) {
-    match reading::all_intervals(settings) {
-        Intervals::Missing => output::text(b"no file intervals.rec\n"),
-        Intervals::Fed(state) => output::concluded(files::conclude(settings, state)),
+fn evaluate(rt: &(impl Files + Print), settings: &[u8]) -> io::Result<()> {
+    match reading::all_intervals(rt, settings) {
+        Intervals::Missing => output::text(rt, b"no file intervals.rec\n"),
+        Intervals::Fed(state) => output::concluded(rt, files::conclude(settings, state)),
     }
 }
 
-fn main() {
+fn main(rt: HostRuntime) -> io::Result<()> {
     // a byte more than settings are, so that a longer file shows
     let mut space = [0u8; 65];
-    match reading::settings(&mut space) {
-        Filled::Failed => output::text(b"no file settings.rec\n"),
-        Filled::Bytes(n) => evaluate(&space[..n]),
+    match reading::settings(&rt, &mut space) {
+        Filled::Failed => output::text(&rt, b"no file settings.rec\n"),
+        Filled::Bytes(n) => evaluate(&rt, &space[..n]),
     }
 }

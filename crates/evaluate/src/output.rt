@@ -1,60 +1,59 @@
 // What is printed: document 01's twelve lines, or why there are none.
 use files::{Answer, Concluded};
-use libc::STDOUT_FILENO;
 use numbers::refusal;
 use numbers::refusal::Refusal;
+use std::io;
 use tallies::Period;
 use verdicts::Verdict;
 
-pub fn text(s: &[u8]) {
-    io::write_all(STDOUT_FILENO, s);
+pub fn text(rt: &impl Print, s: &[u8]) -> io::Result<()> {
+    rt.write_all(s)
 }
 
 // A word, and a number behind it.
-fn figure(word: &[u8], n: u64) {
-    text(word);
-    text(b" ");
-    io::print_decimal(STDOUT_FILENO, n);
+fn figure(rt: &impl Print, word: &[u8], n: u64) -> io::Result<()> {
+    text(rt, word)?;
+    print!(rt; " {n}")
 }
 
-fn refused(r: Refusal) {
+fn refused(rt: &impl Print, r: Refusal) -> io::Result<()> {
     let fault = r.fault;
-    figure(b"refused", refusal::number(fault));
-    figure(b"", r.place);
-    text(b"\n");
+    figure(rt, b"refused", refusal::number(fault))?;
+    figure(rt, b"", r.place)?;
+    text(rt, b"\n")
 }
 
-fn figures(r: Period) {
+fn figures(rt: &impl Print, r: Period) -> io::Result<()> {
     let t = r.loss.available;
     let c = r.composite;
-    figure(b"length", r.length as u64);
-    figure(b" maintenance", r.maintenance as u64);
-    figure(b"\navailable", t.count as u64);
-    figure(b" unavailable", r.loss.unavailable as u64);
-    figure(b" undecided", r.loss.undecided.count as u64);
-    figure(b"\nhigh", t.high as u64);
-    figure(b" runs", t.runs as u64);
-    figure(b"\nsent", t.sent);
-    figure(b" lost", t.lost);
-    figure(b"\ndelay", t.sum);
-    figure(b"", t.least as u64);
-    figure(b"", t.most as u64);
-    figure(b"\ncomposite", c.available as u64);
-    figure(b"", c.unavailable as u64);
-    figure(b"", c.undecided as u64);
-    text(b"\n");
+    figure(rt, b"length", r.length as u64)?;
+    figure(rt, b" maintenance", r.maintenance as u64)?;
+    figure(rt, b"\navailable", t.count as u64)?;
+    figure(rt, b" unavailable", r.loss.unavailable as u64)?;
+    figure(rt, b" undecided", r.loss.undecided.count as u64)?;
+    figure(rt, b"\nhigh", t.high as u64)?;
+    figure(rt, b" runs", t.runs as u64)?;
+    figure(rt, b"\nsent", t.sent)?;
+    figure(rt, b" lost", t.lost)?;
+    figure(rt, b"\ndelay", t.sum)?;
+    figure(rt, b"", t.least as u64)?;
+    figure(rt, b"", t.most as u64)?;
+    figure(rt, b"\ncomposite", c.available as u64)?;
+    figure(rt, b"", c.unavailable as u64)?;
+    figure(rt, b"", c.undecided as u64)?;
+    text(rt, b"\n")
 }
 
-fn verdict(word: &[u8], v: Verdict) {
-    text(word);
+fn verdict(rt: &impl Print, word: &[u8], v: Verdict) -> io::Result<()> {
+    text(rt, word)?;
     match v {
-        Verdict::NotMet => text(b" not met\n"),
-        Verdict::Met => text(b" met\n"),
-        Verdict::NotYet => text(b" not yet\n"),
+        Verdict::NotMet => text(rt, b" not met\n"),
+        Verdict::Met => text(rt, b" met\n"),
+        Verdict::NotYet => text(rt, b" not yet\n"),
     }
 }
 
-fn answer(a: Answer) {
+fn answer(rt: &impl Print, a: Answer) -> io::Result<()> {
     let r = a.period;
     let v = a.verdicts;
     let availability = v.availability;
@@ -63,18 +62,18 @@ fn answer(a: Answer) {
     let mean = v.mean;
     let high = v.high;
     let runs = v.runs;
-    figures(r);
-    verdict(b"availability", availability);
-    verdict(b"composite", composite);
-    verdict(b"loss", loss);
-    verdict(b"mean", mean);
-    verdict(b"high", high);
-    verdict(b"runs", runs);
+    figures(rt, r)?;
+    verdict(rt, b"availability", availability)?;
+    verdict(rt, b"composite", composite)?;
+    verdict(rt, b"loss", loss)?;
+    verdict(rt, b"mean", mean)?;
+    verdict(rt, b"high", high)?;
+    verdict(rt, b"runs", runs)
 }
 
-pub fn concluded(c: Concluded) {
+pub fn concluded(rt: &impl Print, c: Concluded) -> io::Result<()> {
     match c {
-        Concluded::Answered(a) => answer(a),
-        Concluded::Refused(r) => refused(r),
+        Concluded::Answered(a) => answer(rt, a),
+        Concluded::Refused(r) => refused(rt, r),
     }
 }

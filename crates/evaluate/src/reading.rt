@@ -5,6 +5,9 @@ ghost use Rattle.feeding.specs.Feeding.{Ready};
 ghost use Rattle.evaluate.specs.Reading.{Within, FilledWithin, ReadyAfter, GrowingAll};
 
 use feeding::State;
+use std::fs::File;
+use std::io::{ErrorKind, Read};
+use std::rt::Files;
 
 // How many bytes stand at the start of a buffer once more was read, or why there is no more.
 #[derive(Clone, Copy)]
@@ -36,32 +39,30 @@ pub enum Intervals {
 }
 
 // One read into `buf` from `at` on.
-fn read_at(fd: i32, buf: &mut [u8], at: usize) -> More
+fn read_at(file: &mut impl Read, buf: &mut [u8], at: usize) -> More
     requires { at ≤ length buf.old }
     ensures { Within result (length buf.new) }
 {
-    let got = libc::read(fd, &mut buf[at..]);
-    if got < 0 {
-        if os::errno() == libc::EINTR {
-            return More::On(at);
+    match file.read(&mut buf[at..]) {
+        Ok(0) => More::End,
+        Ok(n) => More::On(at + n),
+        Err(e) => {
+            if e.kind() == ErrorKind::Interrupted {
+                return More::On(at);
+            }
+            More::Failed
         }
-        return More::Failed;
     }
-    if got == 0 {
-        return More::End;
-    }
-    let n = io::count(got, &buf[at..]);
-    More::On(at + n)
 }
 
 // Reads until `buf` is full or the file ends.
-fn fill(fd: i32, buf: &mut [u8]) -> Filled
+fn fill(file: &mut impl Read, buf: &mut [u8]) -> Filled
     ensures { FilledWithin result (length buf.new) }
 {
     let mut done: usize = 0;
     let mut turns = u64::MAX;
     while 0 < turns {
-        match read_at(fd, buf, done) {
+        match read_at(file, buf, done) {
             More::On(n) => {
                 done = n;
                 turns -= 1;
@@ -74,46 +75,41 @@ fn fill(fd: i32, buf: &mut [u8]) -> Filled
 }
 
 // What settings.rec begins with, as far as `buf` goes.
-pub fn settings(buf: &mut [u8]) -> Filled
+pub fn settings(rt: &impl Files, buf: &mut [u8]) -> Filled
     ensures { FilledWithin result (length buf.new) }
 {
-    let fd = os::open_read(b"settings.rec");
-    if fd < 0 {
-        return Filled::Failed;
+    match File::open(rt, "settings.rec") {
+        Ok(mut file) => fill(&mut file, buf),
+        Err(_) => Filled::Failed,
     }
-    let filled = fill(fd, buf);
-    libc::close(fd);
-    filled
 }
 
 // One read, and what came of it fed.
-fn feed_some(fd: i32, state: State, tail: &mut [u8], buf: &mut [u8]) -> Step
+fn feed_some(file: &mut impl Read, state: State, tail: &mut [u8], buf: &mut [u8]) -> Step
     requires { Ready state tail.old }
     ensures { ReadyAfter result tail.new }
 {
-    let got = libc::read(fd, buf);
-    if got < 0 {
-        if os::errno() == libc::EINTR {
-            return Step::On(state);
+    match file.read(buf) {
+        Ok(0) => Step::End(state),
+        Ok(n) => Step::On(feeding::feed(state, tail, &buf[..n])),
+        Err(e) => {
+            if e.kind() == ErrorKind::Interrupted {
+                return Step::On(state);
+            }
+            Step::Failed
         }
-        return Step::Failed;
     }
-    if got == 0 {
-        return Step::End(state);
-    }
-    let n = io::count(got, buf);
-    Step::On(feeding::feed(state, tail, &buf[..n]))
 }
 
 // The whole file fed.
-fn feed_all(fd: i32, settings: &[u8], tail: &mut [u8], buf: &mut [u8]) -> Intervals
+fn feed_all(file: &mut impl Read, settings: &[u8], tail: &mut [u8], buf: &mut [u8]) -> Intervals
     requires { length tail.old ≡ 48 }
     ensures { GrowingAll result }
 {
     let mut state = feeding::start(settings);
     let mut turns = u64::MAX;
     while 0 < turns {
-        match feed_some(fd, state, tail, buf) {
+        match feed_some(file, state, tail, buf) {
             Step::On(next) => {
                 state = next;
                 turns -= 1;
@@ -132,23 +128,20 @@ fn buffer() -> [u8; 49_152]
     [0; 49_152]
 }
 
-fn feed_file(fd: i32, settings: &[u8]) -> Intervals
+fn feed_file(file: &mut impl Read, settings: &[u8]) -> Intervals
     ensures { GrowingAll result }
 {
     let mut tail = [0u8; 48];
     let mut space = buffer();
-    feed_all(fd, settings, &mut tail, &mut space)
+    feed_all(file, settings, &mut tail, &mut space)
 }
 
 // All of intervals.rec fed.
-pub fn all_intervals(settings: &[u8]) -> Intervals
+pub fn all_intervals(rt: &impl Files, settings: &[u8]) -> Intervals
     ensures { GrowingAll result }
 {
-    let fd = os::open_read(b"intervals.rec");
-    if fd < 0 {
-        return Intervals::Missing;
+    match File::open(rt, "intervals.rec") {
+        Ok(mut file) => feed_file(&mut file, settings),
+        Err(_) => Intervals::Missing,
     }
-    let fed = feed_file(fd, settings);
-    libc::close(fd);
-    fed
 }
