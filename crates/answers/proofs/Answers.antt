@@ -15,7 +15,6 @@ use Rattle.numbers.specs.Limits.{intervals, frames, delays, largest_delay, pairs
 use Rattle.numbers.specs.Many.{count_of, whole_if}
 use Rattle.numbers.specs.Refusals.{number_of, refusal}
 use Rattle.numbers.specs.Room.{has_room}
-use Rattle.numbers.specs.declared.many.Counted.{Counted}
 use Rattle.numbers.specs.declared.refusal.Fault.{Fault}
 use Rattle.settings.specs.Settings.{settings_of, same_label}
 use Rattle.settings.specs.declared.LabelSettings.{LabelSettings}

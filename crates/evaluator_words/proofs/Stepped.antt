@@ -1,9 +1,8 @@
 -- `mip_start` and `mip_step`: words written one by one stand over the first words; the outcomes under each test.
-use Prim.Native.Nat.{ℕ, suc, ◌≤◌, ◌<◌}
-use mathlib.Core.List.{List, [], ◌∷◌}
+use Prim.Native.Nat.{ℕ, ◌≤◌, ◌<◌}
+use mathlib.Core.List.{List}
 use mathlib.Core.Path.{◌≡◌, refl, ap, sym, ◌∙◌}
-use native.Mathlib.Omega.{arith}
-use lib.ListN.{length, set, length-set}
+use lib.ListN.{length}
 use borrow.Author.Tests.{le-leb, lt-leb, eq-eqb, ne_eqb}
 use Rattle.evaluator.specs.Evaluators.{start_of, step_of}
 use Rattle.evaluator.specs.declared.Answer.{Answer}
@@ -16,7 +15,7 @@ use Rattle.numbers.specs.declared.refusal.Refusal.{Refusal}
 use Rattle.evaluator_words.specs.Running.{setting_words, state_words, evaluator_words, settled_words, evaluator_in, start_told, StartLeft, step_told, step_word, evaluator_left, settled_left, StepLeft}
 use Rattle.words.specs.Written.{over, written}
 use Rattle.words.specs.Word.{word_of}
-use Rattle.words.proofs.Writing.{written_over, length_written}
+use Rattle.words.proofs.Writing.{written_over}
 
 -- the settings' words and then the others are the evaluator's
 pub evaluator_written : (e : Evaluator) (l : List ℕ) → 13 ≤ length l → written (written l 0 (setting_words e)) 8 (state_words e) ≡ over (evaluator_words e) l

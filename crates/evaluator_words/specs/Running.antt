@@ -1,5 +1,5 @@
 -- What `mip_start` and `mip_step` answer and what they leave in the caller's words.
-use Rattle.std.specs.Prelude.{ℕ, suc, Bool, true, false, cond, ◌&&◌, List, [], ◌∷◌, ◌++◌, ◌≡◌, length, drop, set, get_or, leb, eqb}
+use Rattle.std.specs.Prelude.{ℕ, Bool, true, false, cond, ◌&&◌, List, [], ◌∷◌, ◌++◌, ◌≡◌, length, get_or, leb, eqb}
 use Rattle.evaluator.specs.Evaluators.{start_of, step_of}
 use Rattle.evaluator.specs.declared.Answer.{Answer}
 use Rattle.evaluator.specs.declared.Evaluator.{Evaluator}

@@ -11,7 +11,7 @@ use lib.ListN.{length}
 use lib.Seq.{sets}
 use lib.Dec.{ltb, eqb}
 use borrow.Author.Tests.{leb-true, ltb-true, eqb-true, eqb-false}
-use Rattle.numbers.specs.Bytes.{number, bytes_of}
+use Rattle.numbers.specs.Bytes.{bytes_of}
 use Rattle.numbers.specs.Limits.{intervals, frames, largest_delay}
 use Rattle.numbers.specs.Rules.{all_met}
 use Rattle.intervals.specs.Interval.{

@@ -12,7 +12,7 @@ use native.Mathlib.Omega.{arith}
 use lib.ListN.{length, get_or}
 use lib.Dec.{leb, eqb}
 use borrow.Author.Tests.{leb-true, eqb-true, eqb-false, eq-eqb}
-use Rattle.numbers.specs.Bytes.{number, number_at, part, bytes_of, are_zero, Bytes}
+use Rattle.numbers.specs.Bytes.{number_at, part, bytes_of, are_zero, Bytes}
 use Rattle.numbers.specs.Limits.{frames, largest_delay}
 use Rattle.numbers.proofs.Rules.{rule_met}
 use Rattle.numbers.proofs.Bounds.{intervals_fit, frames_fit, largest_delay_fits, interval_sum_fits}

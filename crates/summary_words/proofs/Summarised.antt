@@ -11,7 +11,6 @@ use lib.Dec.{eqb}
 use borrow.Author.Tests.{le-ltb, lt-ltb}
 use Rattle.numbers.specs.Limits.{intervals}
 use Rattle.numbers.specs.Many.{count_of}
-use Rattle.numbers.specs.Refusals.{refusal}
 use Rattle.numbers.specs.Room.{has_room}
 use Rattle.numbers.specs.declared.many.Counted.{Counted}
 use Rattle.numbers.specs.declared.refusal.Fault.{Fault}

@@ -1,7 +1,6 @@
 -- `delays` meets its contract: SETTINGS where they are invalid, else what they say of the list. Valid settings have Pr from 1 to
 -- 1,000,000.
 use mathlib.Core.Path.{sym, ◌∙◌}
-use borrow.Author.Rules.{rules}
 use Rattle.settings.proofs.SettingsRecord.{settings_valid}
 use Rattle.delays.proofs.Judged.{outcome_valid, outcome_invalid}
 use Rattle.delays.proofs.delays.Goals as goal

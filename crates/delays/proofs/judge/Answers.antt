@@ -1,7 +1,6 @@
 -- `judge` meets its contract: FULL, then nothing listed, then FIELD where the survey counted too few delays within the limit, then
 -- the answer.
 use mathlib.Core.Path.{◌∙◌}
-use borrow.Author.Rules.{rules}
 use native.Mathlib.Omega.{arith}
 use Rattle.numbers.specs.Limits.{delays, largest_delay}
 use Rattle.delays.proofs.Judged.{judged_full, judged_field, judged_none, judged_found, least_under}

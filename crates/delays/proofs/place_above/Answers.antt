@@ -1,7 +1,6 @@
 -- `place_above` meets its contract. The invariant: the place is i more than that in what is left from i on.
-use Prim.Native.Nat.{ℕ, ◌+◌, ◌-◌, ◌≤◌}
+use Prim.Native.Nat.{ℕ}
 use mathlib.Core.Path.{◌≡◌, ap}
-use borrow.Author.Rules.{rules}
 use native.Mathlib.Omega.{arith}
 use lib.ListN.{length, drop}
 use Rattle.percentile.specs.Percentile.{place_above}

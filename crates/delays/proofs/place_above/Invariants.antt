@@ -1,11 +1,8 @@
 -- `place_above` meets its contract. The invariant: the place is i more than that in what is left from i on.
-use Prim.Native.Nat.{ℕ, ◌+◌, ◌-◌, ◌≤◌}
-use mathlib.Core.Path.{◌≡◌, ap}
-use borrow.Author.Rules.{rules}
-use native.Mathlib.Omega.{arith}
+use Prim.Native.Nat.{◌+◌, ◌-◌, ◌≤◌}
+use mathlib.Core.Path.{◌≡◌}
 use lib.ListN.{length, drop}
 use Rattle.percentile.specs.Percentile.{place_above}
-use Rattle.percentile.proofs.Place.{place_here, place_on, place_none}
 use Rattle.delays.proofs.place_above.Given as goal
 
 abbrev pub invariant-loop-i : goal.invariant-loop-i

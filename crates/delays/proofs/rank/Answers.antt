@@ -1,5 +1,4 @@
 -- `rank` rounds Pr × N over 1,000,000 up. Nothing overflows: Pr is at most 1,000,000 and N too.
-use borrow.Author.Rules.{rules}
 use native.Mathlib.Omega.{arith}
 use Rattle.numbers.specs.Limits.{delays}
 use Rattle.delays.proofs.Rounding.{rank_meets, product_fits}

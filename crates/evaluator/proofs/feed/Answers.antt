@@ -1,5 +1,4 @@
 -- `evaluator::feed`: each track goes by its own mark, and the answer by what that settled.
-use borrow.Author.Rules.{rules}
 use native.Mathlib.Omega.{arith}
 use Rattle.numbers.proofs.Bounds.{intervals_fit}
 use Rattle.evaluator.specs.Evaluators.{fed_with, answer_of}

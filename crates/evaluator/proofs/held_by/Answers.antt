@@ -1,5 +1,4 @@
 -- `evaluator::held_by` is the definition, word by word.
-use borrow.Author.Rules.{rules}
 use Rattle.evaluator.proofs.held_by.Goals as goal
 
 pub returns : goal.returns

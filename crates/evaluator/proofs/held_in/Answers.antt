@@ -1,5 +1,4 @@
 -- `evaluator::held_in`: the rules of an evaluator, from its label settings on.
-use borrow.Author.Rules.{rules}
 use mathlib.Core.Path.{sym, ◌∙◌}
 use mathlib.Core.Bool.{true, false}
 use Rattle.numbers.specs.Limits.{intervals}

@@ -1,5 +1,4 @@
 -- `evaluator::label_of`: the test on the words cut down is the test on the words.
-use borrow.Author.Rules.{rules}
 use mathlib.Core.Bool.{true, false}
 use Rattle.evaluator.proofs.Words.{label_words}
 use Rattle.evaluator.proofs.label_of.Goals as goal

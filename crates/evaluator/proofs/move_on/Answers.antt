@@ -1,5 +1,4 @@
 -- `evaluator::move_on` goes by what the step gives.
-use borrow.Author.Rules.{rules}
 use Rattle.evaluator.proofs.move_on.Goals as goal
 
 pub returns-in-Fed : goal.returns-in-Fed

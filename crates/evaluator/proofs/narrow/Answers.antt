@@ -1,5 +1,4 @@
 -- `evaluator::narrow` is the definition.
-use borrow.Author.Rules.{rules}
 use mathlib.Core.Path.{refl}
 use Rattle.evaluator.specs.Evaluators.{narrow_of}
 use Rattle.evaluator.proofs.narrow.Goals as goal

@@ -1,5 +1,4 @@
 -- `evaluator::settled_by`: 2 when none.
-use borrow.Author.Rules.{rules}
 use borrow.Author.Tests.{eq-eqb, ne_eqb}
 use Rattle.evaluator.proofs.settled_by.Goals as goal
 

@@ -1,5 +1,4 @@
 -- `evaluator::start` goes by what the settings read as.
-use borrow.Author.Rules.{rules}
 use Rattle.evaluator.specs.Evaluators.{start_of}
 use Rattle.evaluator.proofs.start.Goals as goal
 

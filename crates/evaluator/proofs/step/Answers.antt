@@ -1,6 +1,5 @@
 -- `evaluator::step` goes by the refusals in order; what is left feeds a valid evaluator its next interval.
 -- The number fed is then below 3,000,000, since it is the number of a valid record.
-use borrow.Author.Rules.{rules}
 use mathlib.Core.Path.{sym, ◌∙◌}
 use borrow.Author.Tests.{eq-eqb, ne_eqb}
 use Rattle.evaluator.specs.Evaluators.{step_of}

@@ -1,6 +1,5 @@
 -- `mip_start` meets its contract: each of its ways out is the outcome under the tests that led there.
 use mathlib.Core.Path.{sym, ◌∙◌}
-use borrow.Author.Rules.{rules}
 use native.Mathlib.Omega.{arith}
 use Rattle.evaluator.proofs.Places.{start_place}
 use Rattle.evaluator_words.proofs.Stepped.{start_refused, start_short, started}

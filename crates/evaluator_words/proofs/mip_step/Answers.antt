@@ -1,6 +1,5 @@
 -- `mip_step` meets its contract: each of its ways out is the outcome under the tests that led there.
 use mathlib.Core.Path.{sym, ◌∙◌}
-use borrow.Author.Rules.{rules}
 use native.Mathlib.Omega.{arith}
 use Rattle.evaluator.proofs.Places.{step_place}
 use Rattle.evaluator_words.proofs.Stepped.{other_length, short_evaluator, short_answer, step_refused, stepped}

@@ -1,6 +1,5 @@
 -- `put` writes the label settings and then the rest: together the evaluator's thirteen words.
 use mathlib.Core.Path.{◌∙◌, ap}
-use borrow.Author.Rules.{rules}
 use Rattle.evaluator_words.specs.Running.{state_words}
 use Rattle.words.specs.Written.{written}
 use Rattle.evaluator_words.proofs.Stepped.{evaluator_written}

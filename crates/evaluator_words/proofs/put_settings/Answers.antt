@@ -1,6 +1,5 @@
 -- `put_settings` writes the eight words of the label settings, one by one.
 use mathlib.Core.Path.{refl}
-use borrow.Author.Rules.{rules}
 use native.Mathlib.Omega.{arith}
 use lib.ListN.{length-set}
 use Rattle.words.specs.Written.{written}

@@ -1,5 +1,4 @@
 -- `put_settled` writes the four words of the answer over the first words.
-use borrow.Author.Rules.{rules}
 use native.Mathlib.Omega.{arith}
 use lib.ListN.{length-set}
 use Rattle.evaluator_words.specs.Running.{settled_words}

@@ -1,6 +1,5 @@
 -- `read` takes the thirteen words apart.
 use mathlib.Core.Path.{refl}
-use borrow.Author.Rules.{rules}
 use Rattle.evaluator_words.specs.Running.{evaluator_in}
 use Rattle.evaluator_words.proofs.read.Goals as goal
 

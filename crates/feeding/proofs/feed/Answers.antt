@@ -1,14 +1,13 @@
 -- `feeding::feed` meets its contract: no record has begun, or one goes on, or one ends and the rest of the piece stands behind it.
 use mathlib.Core.Path.{ap, sym, ◌∙◌, subst}
 use mathlib.Core.List.{◌++◌}
-use Prim.Native.Nat.{◌+◌, ◌-◌}
+use Prim.Native.Nat.{◌-◌}
 use native.Mathlib.Omega.{arith}
 use lib.ListN.{length, take, drop, length-take, length-drop}
 use lib.Seq.{take_all, length-take-le}
 use Rattle.feeding.specs.Feeding.{Growing, fed, filled}
 use Rattle.feeding.proofs.Waiting.{goes_on, ends, waiting_length}
 use Rattle.feeding.proofs.Whole.{held_known}
-use borrow.Author.Rules.{rules}
 use Rattle.feeding.proofs.feed.Goals as goal
 
 pub returns-then-left-eq0 : goal.returns-then-left-eq0
@@ -40,10 +39,10 @@ pub returns : goal.returns
 returns c = let a = c.args in let r = c.requires in
     record {
       tail_after =
-      ends a.state.held a.tail.now a.piece.now a.state.left c.copy.result r.room r.few (omega (arith, r.few, c.if-piece-room.false)) c.copy.ensures.count r.valid
-      c.copy.ensures.after
-      (take_all (length a.piece.now - (48 - a.state.left)) (drop (48 - a.state.left) a.piece.now) (simp length-drop (omega arith)))
-      c.take_in-next.ensures
-      c.feed_whole-2.ensures.tail_after;
+          ends a.state.held a.tail.now a.piece.now a.state.left c.copy.result r.room r.few (omega (arith, r.few, c.if-piece-room.false)) c.copy.ensures.count r.valid
+          c.copy.ensures.after
+          (take_all (length a.piece.now - (48 - a.state.left)) (drop (48 - a.state.left) a.piece.now) (simp length-drop (omega arith)))
+          c.take_in-next.ensures
+          c.feed_whole-2.ensures.tail_after;
       ready = c.feed_whole-2.ensures.ready;
     }

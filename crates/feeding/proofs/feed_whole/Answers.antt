@@ -8,7 +8,6 @@ use lib.Seq.{take_all, length-take-le}
 use Rattle.feeding.specs.Feeding.{rest_of}
 use Rattle.feeding.proofs.Pieces.{whole_of}
 use Rattle.feeding.proofs.Waiting.{waits}
-use borrow.Author.Rules.{rules}
 use Rattle.feeding.proofs.feed_whole.Goals as goal
 
 pub slice_bounds-take_in-end : goal.slice_bounds-take_in-end

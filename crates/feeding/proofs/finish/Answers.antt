@@ -1,7 +1,6 @@
 -- `feeding::finish` meets its contract, case by case of what is held.
 use mathlib.Core.Path.{ap, sym, ◌∙◌}
 use Rattle.feeding.specs.Feeding.{finished_by}
-use borrow.Author.Rules.{rules}
 use Rattle.feeding.proofs.finish.Goals as goal
 
 pub returns-in-Unset : goal.returns-in-Unset

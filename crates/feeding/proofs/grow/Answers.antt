@@ -5,7 +5,6 @@ use Rattle.numbers.specs.Limits.{intervals}
 use Rattle.summaries.proofs.Validity.{summary_valid}
 use Rattle.feeding.specs.declared.Held.{Held}
 use Rattle.feeding.proofs.Waiting.{grown_good, grown_bad}
-use borrow.Author.Rules.{rules}
 use Rattle.feeding.proofs.grow.Goals as goal
 
 pub gather-made-requires : goal.gather-made-requires

@@ -1,6 +1,5 @@
 -- `feeding::if_whole` meets its contract, branch by branch.
 use borrow.Author.Tests.{eq-eqb, ne_eqb}
-use borrow.Author.Rules.{rules}
 use Rattle.feeding.proofs.if_whole.Goals as goal
 
 pub returns-then-left-eq0 : goal.returns-then-left-eq0

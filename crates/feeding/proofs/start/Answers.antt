@@ -3,7 +3,6 @@ use mathlib.Core.Path.{ap, sym, ◌∙◌}
 use Rattle.tracks.specs.Tracks.{push_all, summary}
 use Rattle.summaries.specs.Made.{made_of}
 use Rattle.feeding.specs.Feeding.{begun_by, begun}
-use borrow.Author.Rules.{rules}
 use Rattle.feeding.proofs.start.Goals as goal
 
 pub returns-in_default : goal.returns-in_default

@@ -1,7 +1,6 @@
 -- `feeding::take_in` meets its contract: a summary that is held is known, and grows.
 use mathlib.Core.Path.{ap, sym, ◌∙◌, subst}
 use Rattle.feeding.specs.Feeding.{Growing, grown_by}
-use borrow.Author.Rules.{rules}
 use Rattle.feeding.proofs.take_in.Goals as goal
 
 pub grow-requires : goal.grow-requires

@@ -1,7 +1,6 @@
 -- `files::alone` meets its contract: an empty summary stands on either side.
 use Rattle.files.specs.Files.{alone_of}
 use Rattle.files.proofs.Between.{three_known}
-use borrow.Author.Rules.{rules}
 use Rattle.files.proofs.alone.Goals as goal
 
 pub period-requires : goal.period-requires

@@ -4,7 +4,6 @@ use Rattle.feeding.specs.Feeding.{finished_by}
 use Rattle.files.specs.Files.{concluded_by}
 use Rattle.files.specs.declared.Concluded.{Concluded}
 use Rattle.files.proofs.Between.{good_held}
-use borrow.Author.Rules.{rules}
 use Rattle.files.proofs.conclude.Goals as goal
 
 pub returns-in_default : goal.returns-in_default

@@ -1,6 +1,5 @@
 -- `files::judge` meets its contract: the report keeps the verdicts' products in 64 bits.
 use Rattle.files.proofs.Between.{alone_judgeable}
-use borrow.Author.Rules.{rules}
 use Rattle.files.proofs.judge.Goals as goal
 
 pub verdicts_of-requires : goal.verdicts_of-requires

@@ -1,7 +1,6 @@
 -- `frames::frame_in` meets its contract, value by value.
 use mathlib.Core.Path.{refl}
 use Rattle.frames.specs.Frame.{frame_in}
-use borrow.Author.Rules.{rules}
 use Rattle.frames.proofs.frame_in.Goals as goal
 
 pub returns : goal.returns

@@ -11,7 +11,6 @@ use Rattle.numbers.specs.Limits.{largest_delay}
 use Rattle.numbers.proofs.Words.{flag_number}
 use Rattle.frames.specs.Frame.{frame_in, frame_rules, frame_of, valid_if}
 use Rattle.frames.specs.declared.Frame.{Frame}
-use borrow.Author.Rules.{rules}
 use Rattle.frames.proofs.read.Goals as goal
 
 pub returns-then-s-ne16 : goal.returns-then-s-ne16

@@ -11,7 +11,6 @@ use Rattle.tallies.specs.Seen.{loss_seen, composite_seen}
 use Rattle.gathering.specs.Gathering.{toned}
 use Rattle.gathering.proofs.Gathering.{from_first, from_second, on_done, on_invalid, on_disordered}
 use Rattle.gathering.proofs.Segments.{seen_valid, seen_one, seen_high, toned_to}
-use borrow.Author.Rules.{rules}
 use Rattle.gathering.proofs.gather.Goals as goal
 
 pub returns-then-n-eq0 : goal.returns-then-n-eq0

@@ -1,17 +1,14 @@
 -- `gathering::go_on_several` meets its contract: at each turn the laws of `Gathering` and `Segments` say what the record at k does. The
 -- first runs stay, and a run behind each track changes its middle and its last run as `push` does.
 use mathlib.Core.Path.{refl, sym, ◌∙◌}
-use mathlib.Core.Logic.{⊎_elim}
-use Prim.Native.Nat.{◌-◌}
 use native.Mathlib.Omega.{arith}
-use borrow.Author.Rules.{rules}
 use Rattle.numbers.specs.Limits.{intervals}
 use Rattle.tracks.specs.declared.Track.TheVariants.{Many}
 use Rattle.tracks.specs.Tracks.{push}
 use Rattle.tracks.proofs.Fitting.{push_shuts, push_glues}
 use Rattle.gathering.specs.Gathering.{toned, several_of}
 use Rattle.gathering.proofs.Gathering.{on_done, on_invalid, on_disordered}
-use Rattle.gathering.proofs.Segments.{Going, of_rest, going_gone, going_valid, going_room, going_longer, going_next, longer_fits, loss_fits, composite_fits, several_kept, several_next}
+use Rattle.gathering.proofs.Segments.{of_rest, going_gone, going_valid, going_room, going_longer, going_next, longer_fits, loss_fits, composite_fits, several_kept, several_next}
 use Rattle.gathering.proofs.go_on_several.Goals as goal
 use Rattle.gathering.proofs.go_on_several.Goals.{then-now-high, else-now-high}
 
@@ -101,9 +98,9 @@ loop-k-preserved c =
     elim c.if-now-high.branch [
       | then-now-high w ↦ going_longer a.l a.s.now a.n a.first (of_rest a.l a.s.now a.n a.first (several_of a.a) (several_of a.b) a.start a.begun a.from a.place) (Many a.a.first l.loss l.loss_last) (Many a.b.first l.composite l.composite_last) l.segment l.high l.due l.k l.invariant v more e due run marks w.if-now-high.true (several_kept a.a.first w.loss-is w.loss_last-is) (several_kept a.b.first w.composite-is w.composite_last-is) (w.segment-is ∙ w.glue-segment.ensures) w.high-is
       | else-now-high w ↦ going_next a.l a.s.now a.n a.first (of_rest a.l a.s.now a.n a.first (several_of a.a) (several_of a.b) a.start a.begun a.from a.place) (Many a.a.first l.loss l.loss_last) (Many a.b.first l.composite l.composite_last) l.segment l.high l.due l.k l.invariant v more e due run marks
-    (several_next a.l.n a.l.p a.a.first l.loss l.loss_last w.toned-r.result (w.loss-is ∙ w.middle_with-loss.ensures) (w.loss_last-is ∙ w.last_with-loss_last.ensures)) w.toned-r.ensures
-    (several_next a.l.n a.l.p a.b.first l.composite l.composite_last w.toned-q.result (w.composite-is ∙ w.middle_with-composite.ensures) (w.composite_last-is ∙ w.last_with-composite_last.ensures)) w.toned-q.ensures
-    w.segment-is w.high-is
+          (several_next a.l.n a.l.p a.a.first l.loss l.loss_last w.toned-r.result (w.loss-is ∙ w.middle_with-loss.ensures) (w.loss_last-is ∙ w.last_with-loss_last.ensures)) w.toned-r.ensures
+          (several_next a.l.n a.l.p a.b.first l.composite l.composite_last w.toned-q.result (w.composite-is ∙ w.middle_with-composite.ensures) (w.composite_last-is ∙ w.last_with-composite_last.ensures)) w.toned-q.ensures
+          w.segment-is w.high-is
     ]
 
 pub push-requires : goal.push-requires

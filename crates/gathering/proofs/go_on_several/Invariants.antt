@@ -1,16 +1,7 @@
 -- `gathering::go_on_several` meets its contract: at each turn the laws of `Gathering` and `Segments` say what the record at k does. The
-use mathlib.Core.Path.{refl, sym, ◌∙◌}
-use mathlib.Core.Logic.{⊎_elim}
 use Prim.Native.Nat.{◌-◌}
-use native.Mathlib.Omega.{arith}
-use borrow.Author.Rules.{rules}
-use Rattle.numbers.specs.Limits.{intervals}
 use Rattle.tracks.specs.declared.Track.TheVariants.{Many}
-use Rattle.tracks.specs.Tracks.{push}
-use Rattle.tracks.proofs.Fitting.{push_shuts, push_glues}
-use Rattle.gathering.specs.Gathering.{toned, several_of}
-use Rattle.gathering.proofs.Gathering.{on_done, on_invalid, on_disordered}
-use Rattle.gathering.proofs.Segments.{Going, of_rest, going_gone, going_valid, going_room, going_longer, going_next, longer_fits, loss_fits, composite_fits, several_kept, several_next}
+use Rattle.gathering.proofs.Segments.{Going, of_rest}
 use Rattle.gathering.proofs.go_on_several.Given as goal
 
 abbrev pub invariant-loop-k : goal.invariant-loop-k

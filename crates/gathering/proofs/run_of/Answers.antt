@@ -1,6 +1,5 @@
 -- `gathering::run_of` meets its contract: what the track sees, as a run.
 use mathlib.Core.Path.{ap, ◌∙◌}
-use borrow.Author.Rules.{rules}
 use Rattle.runs.specs.Runs.{single}
 use Rattle.gathering.proofs.run_of.Goals as goal
 

@@ -2,7 +2,6 @@
 use mathlib.Core.Path.{refl}
 use Rattle.numbers.specs.Limits.{intervals, frames}
 use Rattle.intervals.specs.Interval.{count_rules, counts_meet}
-use borrow.Author.Rules.{rules}
 use Rattle.intervals.proofs.counts_meet.Goals as goal
 
 pub returns : goal.returns

@@ -1,12 +1,11 @@
 -- `intervals::delays_meet` meets its contract: with nothing delivered the products are 0, and then the rules of the one case are those of
 -- the other and most 0.
-use mathlib.Core.Path.{◌≡◌, refl}
+use mathlib.Core.Path.{◌≡◌}
 use mathlib.Core.Bool.{◌&&◌, ◌||◌, not, cond, and-false}
 use Prim.Native.Nat.{ℕ, zero, suc, ◌-◌, ◌*◌}
 use lib.Dec.{leb, eqb, leb-zero, leb-suc-zero, eqb-suc-zero}
 use Rattle.numbers.specs.Limits.{largest_delay}
 use Rattle.intervals.specs.Interval.{delay_rules, delays_meet, no_delay_rules}
-use borrow.Author.Rules.{rules}
 use Rattle.intervals.proofs.delays_meet.Goals as goal
 
 -- where nothing is delivered: most, least and the sum are 0 or not, whatever the largest delay

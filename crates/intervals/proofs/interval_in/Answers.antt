@@ -1,7 +1,6 @@
 -- `intervals::interval_in` meets its contract, value by value.
 use mathlib.Core.Path.{refl}
 use Rattle.intervals.specs.Interval.{interval_in}
-use borrow.Author.Rules.{rules}
 use Rattle.intervals.proofs.interval_in.Goals as goal
 
 pub returns : goal.returns

@@ -2,7 +2,6 @@
 use mathlib.Core.Path.{refl}
 use Rattle.numbers.specs.Bytes.{bytes_of}
 use Rattle.intervals.specs.Interval.{count_bytes, delay_bytes, interval_bytes}
-use borrow.Author.Rules.{rules}
 use Rattle.intervals.proofs.put.Goals as goal
 
 pub returns : goal.returns

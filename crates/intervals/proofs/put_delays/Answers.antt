@@ -1,5 +1,4 @@
 use Rattle.intervals.proofs.IntervalRecord.{delays_laid}
-use borrow.Author.Rules.{rules}
 use Rattle.intervals.proofs.put_delays.Goals as goal
 
 pub returns : goal.returns

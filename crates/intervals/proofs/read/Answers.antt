@@ -10,7 +10,6 @@ use Rattle.numbers.specs.Bytes.{number_at, are_zero}
 use Rattle.numbers.proofs.Words.{flag_number}
 use Rattle.intervals.specs.Interval.{interval_in, counts_meet, delays_meet, interval_rules, interval_of, valid_if}
 use Rattle.intervals.specs.declared.Interval.{Interval}
-use borrow.Author.Rules.{rules}
 use Rattle.intervals.proofs.read.Goals as goal
 
 pub returns-then-s-ne48 : goal.returns-then-s-ne48

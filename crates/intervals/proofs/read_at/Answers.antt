@@ -1,7 +1,6 @@
 -- `intervals::read_at` meets its contract: the part read is the record.
 use mathlib.Core.Path.{ap, ◌∙◌}
 use Rattle.intervals.specs.Interval.{interval_of}
-use borrow.Author.Rules.{rules}
 use Rattle.intervals.proofs.read_at.Goals as goal
 
 pub returns : goal.returns

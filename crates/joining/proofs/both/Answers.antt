@@ -1,7 +1,6 @@
 -- `joining::both` meets its contract: the tracks of adjoining summaries fit together.
 use Rattle.joining.specs.Joining.{joined_of}
 use Rattle.joining.proofs.Judging.{loss_fits, composite_fits}
-use borrow.Author.Rules.{rules}
 use Rattle.joining.proofs.both.Goals as goal
 
 pub join-loss-requires : goal.join-loss-requires

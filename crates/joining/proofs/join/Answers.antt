@@ -1,16 +1,13 @@
 -- `joining::join` meets its contract: one law of `Judging` for each way out, and the part that has room is filled whole.
 use mathlib.Core.Path.{◌≡◌, ap, sym, ◌∙◌}
-use Prim.Native.Nat.{◌+◌, ◌≤◌}
 use native.Mathlib.Omega.{arith}
-use borrow.Author.Tests.{not-true, not-false}
 use lib.ListN.{length}
 use Rattle.numbers.proofs.Window.{room_within}
 use Rattle.settings.proofs.SettingsRecord.{same_label_equal}
 use Rattle.summaries.specs.Stored.{summary_bytes}
 use Rattle.summaries.proofs.Placing.{part_filled, size_summary}
-use Rattle.joining.specs.Joining.{joined_of, Adjoining}
+use Rattle.joining.specs.Joining.{joined_of}
 use Rattle.joining.proofs.Judging.{short_left, short_right, no_room, bad_left, bad_right, other_settings, apart, made}
-use borrow.Author.Rules.{rules}
 use Rattle.joining.proofs.join.Goals as goal
 
 pub returns-then-left-ne1024 : goal.returns-then-left-ne1024
@@ -48,7 +45,7 @@ pub slice_bounds-put-end : goal.slice_bounds-put-end
 slice_bounds-put-end c = (let a = c.args in room_within (length a.out.now) a.at 1024 (sym c.has_room.ensures ∙ c.if-not-has_room.false))
 
 pub both-requires : goal.both-requires
-both-requires c = (record { left_bytes = c.args.left.now; right_bytes = c.args.right.now; left = sym c.read.ensures ∙ c.in-Valid.is; right = sym c.read-2.ensures ∙ c.in-Valid-read.is; settings = same_label_equal _ _ (sym c.same_label.ensures ∙ c.if-not-same_label.false); numbers = c.if-a-b.false; })
+both-requires c = (record { left_bytes = c.args.left.now; right_bytes = c.args.right.now; left = sym c.read.ensures ∙ c.in-Valid.is; right = sym c.read-2.ensures ∙ c.in-Valid-read.is; settings = same_label_equal _ _ (sym c.same_label.ensures ∙ c.if-not-same_label.false); numbers = c.if-a-b.false })
 
 pub returns : goal.returns
 returns c = let a = c.args in

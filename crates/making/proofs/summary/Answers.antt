@@ -1,16 +1,13 @@
 -- `making::summary` meets its contract: one law of `Answering` for each way out, and the part that has room is filled whole.
 use mathlib.Core.Path.{sym, ◌∙◌}
-use Prim.Native.Nat.{◌+◌, ◌≤◌}
 use native.Mathlib.Omega.{arith}
 use lib.ListN.{length}
-use borrow.Author.Tests.{not-true, not-false}
 use Rattle.numbers.specs.Limits.{intervals}
 use Rattle.numbers.proofs.Window.{room_within}
 use Rattle.labels.proofs.Placing.{read_label}
 use Rattle.summaries.specs.Stored.{summary_bytes}
 use Rattle.summaries.proofs.Placing.{part_filled, size_summary}
 use Rattle.making.proofs.Answering.{no_settings, no_length, no_room, no_number, not_sound, written}
-use borrow.Author.Rules.{rules}
 use Rattle.making.proofs.summary.Goals as goal
 
 pub returns-in_default : goal.returns-in_default

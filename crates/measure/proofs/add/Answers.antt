@@ -4,7 +4,6 @@ use mathlib.Core.Path.{refl}
 use Rattle.numbers.specs.Limits.{frames, largest_delay}
 use Rattle.numbers.proofs.Bounds.{frames_fit}
 use Rattle.measure.specs.Running.{added}
-use borrow.Author.Rules.{rules}
 use Rattle.measure.proofs.add.Goals as goal
 
 pub overflow_add-result : goal.overflow_add-result

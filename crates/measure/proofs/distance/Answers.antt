@@ -1,5 +1,4 @@
 -- `measure::distance` meets its contract: the other of the two differences is 0.
-use borrow.Author.Rules.{rules}
 use native.Mathlib.Omega.{arith}
 use Rattle.measure.specs.Measured.{apart}
 use Rattle.measure.proofs.distance.Goals as goal

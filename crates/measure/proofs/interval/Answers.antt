@@ -1,7 +1,6 @@
 -- `measure::interval` meets its contract: one law of `Judging` for each way out, and the part that has room is filled whole.
-use mathlib.Core.Path.{◌≡◌, sym, ◌∙◌}
+use mathlib.Core.Path.{sym, ◌∙◌}
 use mathlib.Core.Bool.{true}
-use Prim.Native.Nat.{◌+◌, ◌≤◌}
 use native.Mathlib.Omega.{arith}
 use lib.ListN.{length}
 use Rattle.numbers.specs.Room.{has_room}
@@ -10,8 +9,6 @@ use Rattle.settings.proofs.SettingsRecord.{settings_valid}
 use Rattle.intervals.specs.Interval.{interval_bytes}
 use Rattle.intervals.proofs.IntervalRecord.{length_interval}
 use Rattle.measure.proofs.Judging.{no_settings, no_length, no_room, not_sound, made}
-use borrow.Author.Rules.{rules}
-use borrow.Author.Tests.{not-true, not-false}
 use Rattle.measure.proofs.interval.Goals as goal
 
 pub returns-in_default : goal.returns-in_default

@@ -1,12 +1,10 @@
 -- `measure::judge` meets its contract: one law of `Judging` for each way out.
 use mathlib.Core.Path.{ap, sym, ◌∙◌}
-use Prim.Native.Nat.{◌+◌, ◌*◌, ◌^◌, ◌<◌}
 use native.Mathlib.Omega.{arith}
 use lib.Dec.{eqb}
 use Rattle.numbers.specs.Limits.{frames, intervals}
 use Rattle.measure.specs.declared.Judged.{Judged}
 use Rattle.measure.proofs.Judging.{of_taken, judged_full, judged_number, judged_flag, judged_taken, end_fits}
-use borrow.Author.Rules.{rules}
 use Rattle.measure.proofs.judge.Goals as goal
 
 pub returns-then-n : goal.returns-then-n

@@ -1,19 +1,15 @@
 -- `measure::take_frames` meets its contract: at each turn the laws of `Taking` say what the frame at k does.
-use mathlib.Core.Path.{◌≡◌, refl, ap, sym, ◌∙◌}
-use mathlib.Core.List.{List}
-use Prim.Native.Nat.{ℕ, ◌+◌, ◌-◌, ◌≤◌}
+use mathlib.Core.Path.{refl, ap, sym, ◌∙◌}
+use Prim.Native.Nat.{◌+◌}
 use native.Mathlib.Nat.{sub-zero}
 use native.Mathlib.Omega.{arith}
-use borrow.Author.Rules.{rules}
 use Rattle.numbers.specs.Many.{record_at}
 use Rattle.frames.specs.Frame.{frame_of}
 use Rattle.frames.proofs.FrameRecord.{frame_valid}
 use Rattle.measure.specs.Outcome.{frames_in, reads_from}
-use Rattle.measure.specs.Running.{nothing, taken_of, Small}
-use Rattle.measure.specs.declared.Tally.{Tally}
+use Rattle.measure.specs.Running.{nothing, taken_of}
 use Rattle.measure.proofs.Taking.{small_nothing, small_more, sent_more, take_done, take_invalid, take_early, take_beyond, take_disordered, take_next}
 use Rattle.measure.proofs.take_frames.Goals as goal
-use Rattle.measure.proofs.take_frames.Invariants.{Inv}
 
 pub loop-k-init : goal.loop-k-init
 loop-k-init c = let a = c.args in

@@ -2,7 +2,6 @@
 use mathlib.Core.Path.{refl}
 use Rattle.periods.specs.Between.{between}
 use Rattle.periods.proofs.Fits.{left_fits, right_fits, all_fits}
-use borrow.Author.Rules.{rules}
 use Rattle.periods.proofs.between_of.Goals as goal
 
 pub join-known-requires : goal.join-known-requires

@@ -2,7 +2,6 @@
 use mathlib.Core.Path.{refl}
 use Rattle.periods.specs.Stretches.{period_held}
 use Rattle.periods.proofs.Fits.{known_three, loss_fits, composite_fits, count_fits, count_small}
-use borrow.Author.Rules.{rules}
 use Rattle.periods.proofs.period.Goals as goal
 
 pub overflow_sub-length : goal.overflow_sub-length

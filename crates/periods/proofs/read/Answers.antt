@@ -1,7 +1,6 @@
 -- `periods::read` meets its contract: it holds what is read.
 use mathlib.Core.Path.{sym, ap, ◌∙◌}
 use Rattle.periods.specs.Stretches.{held_if, stretch_held}
-use borrow.Author.Rules.{rules}
 use Rattle.periods.proofs.read.Goals as goal
 
 pub returns-in_default : goal.returns-in_default

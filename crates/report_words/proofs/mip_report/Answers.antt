@@ -1,6 +1,5 @@
 -- `mip_report` meets its contract: each of its ways out is the outcome under the tests that led there.
 use mathlib.Core.Path.{sym, ◌∙◌}
-use borrow.Author.Rules.{rules}
 use native.Mathlib.Omega.{arith}
 use Rattle.reports.proofs.Places.{report_place}
 use Rattle.report_words.proofs.Judged.{report_length, report_short, report_refused, report_answered}

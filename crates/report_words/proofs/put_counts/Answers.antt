@@ -1,6 +1,5 @@
 -- `put_counts` writes the seven counts, one by one.
 use mathlib.Core.Path.{refl}
-use borrow.Author.Rules.{rules}
 use native.Mathlib.Omega.{arith}
 use lib.ListN.{length-set}
 use Rattle.words.specs.Written.{written}

@@ -1,6 +1,5 @@
 -- `put_report` writes the counts, the sums and the composite track's counts: together the fifteen figures.
 use mathlib.Core.Path.{◌∙◌, ap}
-use borrow.Author.Rules.{rules}
 use Rattle.words.specs.Written.{written}
 use Rattle.report_words.specs.ReportList.{sum_words, composite_words}
 use Rattle.report_words.proofs.Judged.{report_written}

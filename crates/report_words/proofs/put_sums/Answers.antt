@@ -1,6 +1,5 @@
 -- `put_sums` writes the five sums behind them, one by one.
 use mathlib.Core.Path.{refl}
-use borrow.Author.Rules.{rules}
 use native.Mathlib.Omega.{arith}
 use lib.ListN.{length-set}
 use Rattle.words.specs.Written.{written}

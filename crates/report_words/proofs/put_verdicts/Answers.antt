@@ -1,5 +1,4 @@
 -- `put_verdicts` writes the numbers of the six verdicts over the first words.
-use borrow.Author.Rules.{rules}
 use native.Mathlib.Omega.{arith}
 use lib.ListN.{length-set}
 use Rattle.words.specs.Written.{written}

@@ -1,5 +1,4 @@
 -- `reports::adjoining` meets its contract: it compares the numbers of the two.
-use borrow.Author.Rules.{rules}
 use Rattle.reports.proofs.adjoining.Goals as goal
 
 pub returns : goal.returns

@@ -1,5 +1,4 @@
 -- `reports::alike` meets its contract: it compares the label settings of the two.
-use borrow.Author.Rules.{rules}
 use Rattle.reports.proofs.alike.Goals as goal
 
 pub returns : goal.returns

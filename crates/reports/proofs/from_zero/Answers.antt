@@ -1,5 +1,4 @@
 -- `reports::from_zero` meets its contract: it asks for the first number.
-use borrow.Author.Rules.{rules}
 use Rattle.reports.proofs.from_zero.Goals as goal
 
 pub returns : goal.returns

@@ -1,8 +1,6 @@
 -- `reports::judge` meets its contract: one law of `Judging` for each way out.
 use mathlib.Core.Path.{sym, ◌∙◌}
 use native.Mathlib.Omega.{arith}
-use borrow.Author.Rules.{rules}
-use borrow.Author.Tests.{not-true, not-false}
 use Rattle.numbers.specs.Limits.{pairs}
 use Rattle.reports.proofs.Judging.{known_by, unsuited, unlike_middle, unlike_right, late, apart_middle, apart_right, adjoined}
 use Rattle.reports.proofs.judge.Goals as goal

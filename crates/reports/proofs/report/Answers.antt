@@ -1,5 +1,4 @@
 -- `reports::report` meets its contract: 3,072 bytes, and then the three from 0 on.
-use borrow.Author.Rules.{rules}
 use borrow.Author.Tests.{eq-eqb, ne_eqb}
 use Rattle.reports.specs.Three.{unless, report_of}
 use Rattle.reports.proofs.report.Goals as goal

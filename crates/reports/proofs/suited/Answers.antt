@@ -1,5 +1,4 @@
 -- `reports::suited` meets its contract: it compares label settings where such are given.
-use borrow.Author.Rules.{rules}
 use Rattle.reports.proofs.suited.Goals as goal
 
 pub returns-in-These : goal.returns-in-These

@@ -1,5 +1,4 @@
 -- `reports::summary_at` meets its contract: it reads the part that is the record.
-use borrow.Author.Rules.{rules}
 use Rattle.reports.proofs.summary_at.Goals as goal
 
 pub returns : goal.returns

@@ -1,7 +1,6 @@
 -- `reports::three_at` meets its contract: one law of `Judging` for each way out, and three that are read.
 use mathlib.Core.Path.{sym, ◌∙◌}
 use native.Mathlib.Omega.{arith}
-use borrow.Author.Rules.{rules}
 use Rattle.numbers.specs.Limits.{pairs}
 use Rattle.reports.proofs.Judging.{bad_left, bad_middle, bad_right, all_read}
 use Rattle.reports.proofs.three_at.Goals as goal

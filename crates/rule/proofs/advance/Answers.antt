@@ -1,5 +1,4 @@
 -- `rule::advance` is the definition's step: its test is `settles`.
-use borrow.Author.Rules.{rules}
 use Rattle.rule.specs.Evaluator.{settles, gain, turn}
 use Rattle.rule.proofs.advance.Goals as goal
 

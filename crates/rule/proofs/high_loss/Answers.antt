@@ -1,5 +1,4 @@
 -- `rule::high_loss` is the definition's test, with `times` for each product.
-use borrow.Author.Rules.{rules}
 use Rattle.rule.specs.Marks.{high_loss}
 use Rattle.rule.proofs.high_loss.Goals as goal
 

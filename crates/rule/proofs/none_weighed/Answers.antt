@@ -1,5 +1,4 @@
 -- `rule::none_weighed` is the definition's test: what `monus` gives is the number delivered.
-use borrow.Author.Rules.{rules}
 use Rattle.rule.specs.Marks.{nothing_weighed}
 use Rattle.rule.proofs.none_weighed.Goals as goal
 

@@ -1,7 +1,6 @@
 -- `sets::verdicts` meets its contract: one law of `Going` for each way out.
 use mathlib.Core.Path.{sym, ◌∙◌}
 use native.Mathlib.Omega.{arith}
-use borrow.Author.Rules.{rules}
 use Rattle.numbers.specs.Limits.{pairs}
 use Rattle.sets.proofs.Going.{no_settings, no_pairs, many_pairs, no_length, gone_over}
 use Rattle.sets.proofs.verdicts.Goals as goal

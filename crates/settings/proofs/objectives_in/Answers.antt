@@ -1,7 +1,6 @@
 -- `settings::objectives_in` meets its contract, value by value.
 use mathlib.Core.Path.{refl}
 use Rattle.settings.specs.Settings.{objectives_in}
-use borrow.Author.Rules.{rules}
 use Rattle.settings.proofs.objectives_in.Goals as goal
 
 pub returns : goal.returns

@@ -2,7 +2,6 @@
 use mathlib.Core.Path.{refl}
 use Rattle.numbers.specs.Bytes.{bytes_of}
 use Rattle.settings.specs.Settings.{shape_bytes}
-use borrow.Author.Rules.{rules}
 use Rattle.settings.proofs.put_shape.Goals as goal
 
 pub returns : goal.returns

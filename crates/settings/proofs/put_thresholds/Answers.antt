@@ -2,7 +2,6 @@
 use mathlib.Core.Path.{refl}
 use Rattle.numbers.specs.Bytes.{bytes_of}
 use Rattle.settings.specs.Settings.{threshold_bytes}
-use borrow.Author.Rules.{rules}
 use Rattle.settings.proofs.put_thresholds.Goals as goal
 
 pub returns : goal.returns

@@ -9,7 +9,6 @@ use Rattle.settings.specs.declared.LabelSettings.{LabelSettings}
 use Rattle.settings.specs.declared.Settings.{Settings}
 use borrow.Author.Tests.{eq-eqb, ne_eqb}
 use Rattle.settings.specs.Settings.{label_in, label_meets, objectives_in, objectives_meet, settings_rules, settings_of, valid_if}
-use borrow.Author.Rules.{rules}
 use Rattle.settings.proofs.read.Goals as goal
 
 -- `settings::read` meets its contract: the length, then the rules over the values read.

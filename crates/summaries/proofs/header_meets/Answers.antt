@@ -2,7 +2,6 @@
 use mathlib.Core.Path.{refl}
 use Rattle.numbers.specs.Limits.{intervals}
 use Rattle.summaries.specs.Stored.{header_rules, header_meets}
-use borrow.Author.Rules.{rules}
 use Rattle.summaries.proofs.header_meets.Goals as goal
 
 pub returns : goal.returns

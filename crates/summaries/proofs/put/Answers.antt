@@ -1,7 +1,6 @@
 -- `summaries::put` meets its contract: its pieces fill the part.
 use Rattle.summaries.specs.Stored.{summary_bytes}
 use Rattle.summaries.proofs.Placing.{put_whole}
-use borrow.Author.Rules.{rules}
 use Rattle.summaries.proofs.put.Goals as goal
 
 pub returns : goal.returns

@@ -8,7 +8,6 @@ use lib.ListN.{length}
 use borrow.Author.Tests.{eq-eqb, ne_eqb}
 use Rattle.summaries.specs.Stored.{summary_in, header_meets, tracks_meet, summary_rules, summary_of, valid_if}
 use Rattle.summaries.specs.declared.Summary.{Summary}
-use borrow.Author.Rules.{rules}
 use Rattle.summaries.proofs.read.Goals as goal
 
 pub returns-then-s-ne1024 : goal.returns-then-s-ne1024

@@ -1,7 +1,6 @@
 -- `summaries::summary_in` meets its contract, value by value.
 use mathlib.Core.Path.{refl}
 use Rattle.summaries.specs.Stored.{summary_in}
-use borrow.Author.Rules.{rules}
 use Rattle.summaries.proofs.summary_in.Goals as goal
 
 pub returns : goal.returns

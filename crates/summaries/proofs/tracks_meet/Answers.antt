@@ -9,7 +9,6 @@ use Rattle.track_rules.proofs.Meeting.{track_met}
 use Rattle.tracks.specs.Tracks.{count_in}
 use Rattle.tracks.specs.declared.Track.{Track}
 use Rattle.tracks.proofs.Serving.{count_valid}
-use borrow.Author.Rules.{rules}
 use Rattle.summaries.proofs.tracks_meet.Goals as goal
 
 -- a track that meets its rules counts at most its length

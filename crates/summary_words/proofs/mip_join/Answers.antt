@@ -1,6 +1,5 @@
 -- `mip_join` meets its contract: it says what `join` answers as a word, and the place fits.
 use mathlib.Core.Path.{ap, sym, ◌∙◌}
-use borrow.Author.Rules.{rules}
 use Rattle.summary_words.specs.SummaryList.{joined_word}
 use Rattle.summary_words.proofs.Summarised.{join_fits, join_word}
 use Rattle.summary_words.proofs.mip_join.Goals as goal

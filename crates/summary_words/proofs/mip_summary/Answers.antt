@@ -1,6 +1,5 @@
 -- `mip_summary` meets its contract: it says what `summary` answers as a word, and the place fits.
 use mathlib.Core.Path.{ap, sym, ◌∙◌}
-use borrow.Author.Rules.{rules}
 use Rattle.summary_words.specs.SummaryList.{made_word}
 use Rattle.summary_words.proofs.Summarised.{summary_fits, summary_word}
 use Rattle.summary_words.proofs.mip_summary.Goals as goal

@@ -1,5 +1,4 @@
 -- `track_rules::busy` meets its contract: four numbers of 32 bits add up in 64.
-use borrow.Author.Rules.{rules}
 use mathlib.Core.Path.{refl}
 use native.Mathlib.Omega.{arith}
 use Rattle.tracks.specs.Valid.{busy}

@@ -1,5 +1,4 @@
 -- `track_rules::delays` meets its contract: the largest delay for each frame of a whole circuit fits.
-use borrow.Author.Rules.{rules}
 use native.Mathlib.Omega.{arith}
 use native.Mathlib.Nat.{mul-le-mul}
 use Rattle.numbers.proofs.Bounds.{circuit_sum_fits}

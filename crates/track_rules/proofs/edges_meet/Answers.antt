@@ -1,5 +1,4 @@
 -- `track_rules::edges_meet` meets its contract, by the mark.
-use borrow.Author.Rules.{rules}
 use Rattle.track_rules.proofs.edges_meet.Goals as goal
 
 pub returns-then-mark : goal.returns-then-mark

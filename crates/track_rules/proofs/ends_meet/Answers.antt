@@ -1,5 +1,4 @@
 -- `track_rules::ends_meet` meets its contract, by the label.
-use borrow.Author.Rules.{rules}
 use Rattle.track_rules.specs.Meets.{ends_meet}
 use Rattle.track_rules.proofs.ends_meet.Goals as goal
 

@@ -1,5 +1,4 @@
 -- `track_rules::figures_meet` meets its contract: the tests are the definition's.
-use borrow.Author.Rules.{rules}
 use Rattle.track_rules.specs.Meets.{figures_meet}
 use Rattle.track_rules.proofs.figures_meet.Goals as goal
 

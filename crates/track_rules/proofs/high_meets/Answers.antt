@@ -1,5 +1,4 @@
 -- `track_rules::high_meets` meets its contract, by the edges. The sums of 32 bits and one product fit 64.
-use borrow.Author.Rules.{rules}
 use native.Mathlib.Omega.{arith}
 use native.Mathlib.Nat.{mul-le-mul}
 use Prim.Native.Nat.{◌*◌, ◌≤◌}

@@ -1,5 +1,4 @@
 -- `track_rules::label_meets` meets its contract, by the label.
-use borrow.Author.Rules.{rules}
 use Rattle.track_rules.specs.Meets.{label_meets}
 use Rattle.track_rules.proofs.label_meets.Goals as goal
 

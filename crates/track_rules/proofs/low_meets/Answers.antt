@@ -1,5 +1,4 @@
 -- `track_rules::low_meets` meets its contract, by the edges.
-use borrow.Author.Rules.{rules}
 use Rattle.track_rules.specs.Meets.{low_meets}
 use Rattle.track_rules.proofs.low_meets.Goals as goal
 

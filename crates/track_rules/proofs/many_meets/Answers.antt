@@ -1,5 +1,4 @@
 -- `track_rules::many_meets` meets its contract: the tests are the definition's.
-use borrow.Author.Rules.{rules}
 use Rattle.track_rules.specs.Meets.{many_meets}
 use Rattle.track_rules.proofs.many_meets.Goals as goal
 

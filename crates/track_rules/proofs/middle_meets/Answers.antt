@@ -1,5 +1,4 @@
 -- `track_rules::middle_meets` meets its contract: the tests are the definition's.
-use borrow.Author.Rules.{rules}
 use Rattle.track_rules.specs.Meets.{middle_meets}
 use Rattle.track_rules.proofs.middle_meets.Goals as goal
 

@@ -1,5 +1,4 @@
 -- `track_rules::no_figures` meets its contract: the tests are the definition's.
-use borrow.Author.Rules.{rules}
 use Rattle.track_rules.specs.Meets.{no_figures}
 use Rattle.track_rules.proofs.no_figures.Goals as goal
 

@@ -1,5 +1,4 @@
 -- `track_rules::run_meets` meets its contract: the tests are the definition's.
-use borrow.Author.Rules.{rules}
 use Rattle.track_rules.specs.Meets.{run_meets}
 use Rattle.track_rules.proofs.run_meets.Goals as goal
 

@@ -1,5 +1,4 @@
 -- `track_rules::track_meets` meets its contract, by the track.
-use borrow.Author.Rules.{rules}
 use borrow.Author.Tests.{le-leb, lt-leb}
 use Rattle.track_rules.specs.Meets.{track_meets}
 use Rattle.track_rules.proofs.track_meets.Goals as goal

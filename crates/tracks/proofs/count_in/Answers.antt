@@ -1,7 +1,6 @@
 -- `tracks::count_in` meets its contract, by the track. What it requires bounds each sum on the way.
 use mathlib.Core.Path.{sym}
 use native.Mathlib.Omega.{arith}
-use borrow.Author.Rules.{rules}
 use Rattle.tracks.specs.Tracks.{count_in}
 use Rattle.tracks.proofs.Serving.{count_many}
 use Rattle.tracks.proofs.count_in.Goals as goal

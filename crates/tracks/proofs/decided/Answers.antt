@@ -1,5 +1,4 @@
 -- `tracks::decided` meets its contract, by the label.
-use borrow.Author.Rules.{rules}
 use Rattle.tracks.specs.Tracks.{decided}
 use Rattle.tracks.proofs.decided.Goals as goal
 

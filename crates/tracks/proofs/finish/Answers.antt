@@ -1,5 +1,4 @@
 -- `tracks::finish` meets its contract, by whether the last run is decided.
-use borrow.Author.Rules.{rules}
 use Rattle.tracks.specs.Tracks.{finish}
 use Rattle.tracks.proofs.Fitting.{finish_shuts, finish_times}
 use Rattle.tracks.proofs.finish.Goals as goal

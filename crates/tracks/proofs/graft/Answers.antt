@@ -1,5 +1,4 @@
 -- `tracks::graft` meets its contract, by the track. What it requires keeps each sum in its field.
-use borrow.Author.Rules.{rules}
 use Rattle.tracks.specs.Tracks.{graft}
 use Rattle.tracks.proofs.Fitting.{graft_shuts, graft_times, graft_times_2}
 use Rattle.tracks.proofs.graft.Goals as goal

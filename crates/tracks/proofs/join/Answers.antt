@@ -1,5 +1,4 @@
 -- `tracks::join` meets its contract, by the right track.
-use borrow.Author.Rules.{rules}
 use Rattle.tracks.specs.Tracks.{join}
 use Rattle.tracks.proofs.Fitting.{join_one, join_first, join_rest}
 use Rattle.tracks.proofs.join.Goals as goal

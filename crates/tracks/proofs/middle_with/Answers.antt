@@ -1,5 +1,4 @@
 -- `tracks::middle_with` meets its contract, by whether the marks are equal.
-use borrow.Author.Rules.{rules}
 use Rattle.tracks.proofs.middle_with.Goals as goal
 
 pub returns-then-same : goal.returns-then-same

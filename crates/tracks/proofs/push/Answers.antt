@@ -1,6 +1,5 @@
 -- `tracks::push` meets its contract, by the track and whether the marks are equal. What it requires keeps each sum in its field.
 use mathlib.Core.Path.{sym}
-use borrow.Author.Rules.{rules}
 use Rattle.tracks.specs.Tracks.{push}
 use Rattle.tracks.proofs.Fitting.{push_one, push_glues, push_shuts}
 use Rattle.tracks.proofs.Joining.{push_many}

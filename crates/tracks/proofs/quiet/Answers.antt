@@ -1,5 +1,4 @@
 -- `tracks::quiet` meets its contract, by the track.
-use borrow.Author.Rules.{rules}
 use Rattle.tracks.specs.Tracks.{quiet}
 use Rattle.tracks.proofs.quiet.Goals as goal
 

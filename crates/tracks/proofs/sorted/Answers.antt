@@ -1,5 +1,4 @@
 -- `tracks::sorted` meets its contract, by the track. What it requires keeps each sum in its field.
-use borrow.Author.Rules.{rules}
 use Rattle.runs.specs.Middles.{placed}
 use Rattle.tracks.specs.Tracks.{start, sorted}
 use Rattle.tracks.proofs.Fitting.{whole_one, whole_shuts, whole_times, whole_times_2, whole_many}

@@ -1,5 +1,4 @@
 -- `tracks::start` meets its contract.
-use borrow.Author.Rules.{rules}
 use Rattle.tracks.specs.Tracks.{start}
 use Rattle.tracks.proofs.start.Goals as goal
 

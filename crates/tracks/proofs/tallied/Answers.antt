@@ -1,5 +1,4 @@
 -- `tracks::tallied` meets its contract: both sets of figures are reported.
-use borrow.Author.Rules.{rules}
 use Rattle.tracks.specs.Tracks.{tallied}
 use Rattle.tracks.proofs.tallied.Goals as goal
 

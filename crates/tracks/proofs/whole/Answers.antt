@@ -1,5 +1,4 @@
 -- `tracks::whole` meets its contract: what is sorted is reported.
-use borrow.Author.Rules.{rules}
 use Rattle.tracks.specs.Tracks.{whole}
 use Rattle.tracks.proofs.whole.Goals as goal
 

@@ -1,5 +1,4 @@
 -- `verdicts::both`: `worse` for each objective.
-use borrow.Author.Rules.{rules}
 use Rattle.verdicts.specs.Sets.{of_sets}
 use Rattle.verdicts.proofs.both.Goals as goal
 

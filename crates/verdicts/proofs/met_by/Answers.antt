@@ -1,5 +1,4 @@
 -- `verdicts::met_by`: each objective by its own test.
-use borrow.Author.Rules.{rules}
 use Rattle.verdicts.specs.Verdicts.{met_by}
 use Rattle.verdicts.proofs.met_by.Goals as goal
 

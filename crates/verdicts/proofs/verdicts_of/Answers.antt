@@ -1,6 +1,5 @@
 -- `verdicts::verdicts_of`: the tests with the undecided intervals taken either way, and what the two have in common.
 use mathlib.Core.Path.{subst⁻¹}
-use borrow.Author.Rules.{rules}
 use Rattle.verdicts.specs.Verdicts.{agreed, verdicts_of, Fits}
 use Rattle.verdicts.proofs.verdicts_of.Goals as goal
 

@@ -1,6 +1,5 @@
 -- `verdicts::worse`: not met is the worst, then not yet; met changes nothing.
 use mathlib.Core.Path.{sym}
-use borrow.Author.Rules.{rules}
 use Rattle.verdicts.specs.Sets.{any, of_set}
 use Rattle.verdicts.proofs.Gathering.{met_first}
 use Rattle.verdicts.proofs.worse.Goals as goal

@@ -1,5 +1,5 @@
 -- `evaluate::reading::feed_all` meets its contract: nothing is fed at first, and what is held at the end grows from what was ready.
-use Rattle.std.proofs.Common.{subst, sym, arith}
+use Rattle.std.proofs.Common.{subst, sym}
 use Rattle.feeding.specs.Feeding.{Ready}
 use Rattle.feeding.proofs.Whole.{ready_first}
 use Rattle.evaluate.proofs.reading.feed_all.Goals as goal

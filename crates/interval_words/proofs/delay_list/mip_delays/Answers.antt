@@ -1,6 +1,5 @@
 -- `mip_delays` meets its contract: each of its ways out is the outcome under the tests that led there.
 use mathlib.Core.Path.{sym, ◌∙◌}
-use borrow.Author.Rules.{rules}
 use native.Mathlib.Omega.{arith}
 use Rattle.numbers.specs.Limits
 use Rattle.delays.proofs.Judged.{refused_place}

@@ -1,5 +1,4 @@
 -- `put` writes the four answers over the first four words.
-use borrow.Author.Rules.{rules}
 use native.Mathlib.Omega.{arith}
 use lib.ListN.{length-set}
 use Rattle.interval_words.proofs.Delayed.{four_set}

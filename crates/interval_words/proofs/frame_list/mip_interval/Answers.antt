@@ -1,6 +1,5 @@
 -- `mip_interval` meets its contract: it says what `interval` answers as a word, and the place fits.
 use mathlib.Core.Path.{ap, sym, ◌∙◌}
-use borrow.Author.Rules.{rules}
 use Rattle.interval_words.specs.FrameList.{word_for}
 use Rattle.interval_words.proofs.Measured.{place_fits, as_word}
 use Rattle.interval_words.proofs.frame_list.mip_interval.Goals as goal

@@ -1,6 +1,5 @@
 -- `mip_labels` meets its contract: it says what `labels` answers as a word, and the place fits.
 use mathlib.Core.Path.{ap, sym, ◌∙◌}
-use borrow.Author.Rules.{rules}
 use Rattle.interval_words.specs.LabelList.{word_for}
 use Rattle.interval_words.proofs.Labelled.{place_fits, as_word}
 use Rattle.interval_words.proofs.label_list.mip_labels.Goals as goal

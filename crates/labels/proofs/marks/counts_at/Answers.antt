@@ -1,5 +1,4 @@
 -- `labels::marks::counts_at` reads the part that is the record.
-use borrow.Author.Rules.{rules}
 use Rattle.labels.proofs.marks.counts_at.Goals as goal
 
 pub returns : goal.returns

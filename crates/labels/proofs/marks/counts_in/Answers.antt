@@ -1,5 +1,4 @@
 -- `labels::marks::counts_in` is the definition, value by value.
-use borrow.Author.Rules.{rules}
 use Rattle.labels.specs.Marked.{counts_in}
 use Rattle.labels.proofs.marks.counts_in.Goals as goal
 

@@ -1,5 +1,4 @@
 -- `labels::marks::marks` marks what `counts_of` takes out.
-use borrow.Author.Rules.{rules}
 use Rattle.labels.proofs.marks.marks.Goals as goal
 
 pub returns : goal.returns

@@ -1,14 +1,10 @@
 -- `labels::stretch::fill`: what is left to set from `j` on gives the same as setting all.
 use borrow.Author.Rules.{rules}
-use mathlib.Core.Path.{◌≡◌, refl, sym, ◌∙◌}
-use mathlib.Core.List.{List}
-use Prim.Native.Nat.{ℕ, ◌+◌, ◌*◌, ◌-◌, ◌≤◌}
+use mathlib.Core.Path.{refl, sym, ◌∙◌}
 use native.Mathlib.Omega.{arith}
-use lib.ListN.{length, length-set}
-use Rattle.labels.specs.Stretch.{strided}
+use lib.ListN.{length-set}
 use Rattle.labels.proofs.Strides.{strided_start, strided_next, strided_none}
 use Rattle.labels.proofs.stretch.fill.Goals as goal
-use Rattle.labels.proofs.stretch.fill.Invariants.{Inv}
 
 pub loop-j-init : goal.loop-j-init
 loop-j-init c = record { most = omega arith; long = refl; left = strided_start c.args.part.now c.args.from c.args.count c.args.x }

@@ -1,12 +1,9 @@
 -- `labels::stretch::fill`: what is left to set from `j` on gives the same as setting all.
-use borrow.Author.Rules.{rules}
-use mathlib.Core.Path.{◌≡◌, refl, sym, ◌∙◌}
+use mathlib.Core.Path.{◌≡◌}
 use mathlib.Core.List.{List}
 use Prim.Native.Nat.{ℕ, ◌+◌, ◌*◌, ◌-◌, ◌≤◌}
-use native.Mathlib.Omega.{arith}
-use lib.ListN.{length, length-set}
+use lib.ListN.{length}
 use Rattle.labels.specs.Stretch.{strided}
-use Rattle.labels.proofs.Strides.{strided_start, strided_next, strided_none}
 use Rattle.labels.proofs.stretch.fill.Given as goal
 
 pub record Inv (part₀ : List ℕ) (from count x : ℕ) (part : List ℕ) (j : ℕ) : Type 0 where

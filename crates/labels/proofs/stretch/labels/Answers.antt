@@ -1,5 +1,4 @@
 -- `labels::stretch::labels` goes by the settings, the number of records, and then the records.
-use borrow.Author.Rules.{rules}
 use mathlib.Core.Path.{sym, ◌∙◌}
 use Rattle.labels.proofs.Placing.{read_label, counted}
 use Rattle.labels.specs.Stretch.{labels_of}

@@ -1,5 +1,4 @@
 -- `labels::stretch::leave_both`: one lane, then the other.
-use borrow.Author.Rules.{rules}
 use Rattle.labels.proofs.stretch.leave_both.Goals as goal
 
 pub returns : goal.returns

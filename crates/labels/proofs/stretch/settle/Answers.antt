@@ -1,5 +1,4 @@
 -- `labels::stretch::settle`: a mark settles no more labels than intervals are known, so their places lie on the lane.
-use borrow.Author.Rules.{rules}
 use mathlib.Core.Path.{ap}
 use native.Mathlib.Omega.{arith}
 use Rattle.rule.specs.declared.Turned.{Turned}

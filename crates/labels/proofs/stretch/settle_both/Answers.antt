@@ -1,5 +1,4 @@
 -- `labels::stretch::settle_both`: one lane by the loss mark, then the other by the composite mark.
-use borrow.Author.Rules.{rules}
 use Rattle.labels.proofs.stretch.settle_both.Goals as goal
 
 pub returns : goal.returns

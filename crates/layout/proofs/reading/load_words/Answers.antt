@@ -2,7 +2,6 @@
 use mathlib.Core.Path.{refl}
 use Rattle.numbers.specs.Limits.{largest_delay}
 use Rattle.layout.specs.Reading.{load_words}
-use borrow.Author.Rules.{rules}
 use Rattle.layout.proofs.reading.load_words.Goals as goal
 
 pub returns : goal.returns

@@ -1,7 +1,6 @@
 -- `layout::reading::middle_words` meets its contract: it is the rules, one after the other.
 use mathlib.Core.Path.{refl}
 use Rattle.layout.specs.Reading.{middle_words}
-use borrow.Author.Rules.{rules}
 use Rattle.layout.proofs.reading.middle_words.Goals as goal
 
 pub returns : goal.returns

@@ -1,7 +1,6 @@
 -- `layout::reading::run_in` meets its contract, value by value.
 use mathlib.Core.Path.{refl}
 use Rattle.layout.specs.Reading.{run_in}
-use borrow.Author.Rules.{rules}
 use Rattle.layout.proofs.reading.run_in.Goals as goal
 
 pub returns : goal.returns

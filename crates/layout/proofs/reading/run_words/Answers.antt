@@ -1,7 +1,6 @@
 -- `layout::reading::run_words` meets its contract: it is the rules, one after the other.
 use mathlib.Core.Path.{refl}
 use Rattle.layout.specs.Reading.{run_words}
-use borrow.Author.Rules.{rules}
 use Rattle.layout.proofs.reading.run_words.Goals as goal
 
 pub returns : goal.returns

@@ -1,9 +1,6 @@
 -- `layout::reading::track_in` meets its contract, kind by kind.
 use mathlib.Core.Path.{refl, sym, ◌∙◌}
 use Rattle.layout.specs.Reading.{track_in}
-use borrow.Author.Tests.{ne_eqb}
-use Rattle.numbers.specs.Bytes.{number_at}
-use borrow.Author.Rules.{rules}
 use Rattle.layout.proofs.reading.track_in.Goals as goal
 
 pub returns-in-0 : goal.returns-in-0

@@ -1,9 +1,6 @@
 -- `layout::reading::words_meet` meets its contract, kind by kind.
 use mathlib.Core.Path.{refl, sym, ◌∙◌}
 use Rattle.layout.specs.Reading.{words_meet}
-use borrow.Author.Tests.{ne_eqb}
-use Rattle.numbers.specs.Bytes.{number_at}
-use borrow.Author.Rules.{rules}
 use Rattle.layout.proofs.reading.words_meet.Goals as goal
 
 pub returns-in-0 : goal.returns-in-0

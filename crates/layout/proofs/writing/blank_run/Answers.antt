@@ -1,6 +1,5 @@
 -- `layout::writing::blank_run` meets its contract, value by value.
 use mathlib.Core.Path.{refl}
-use borrow.Author.Rules.{rules}
 use Rattle.layout.proofs.writing.blank_run.Goals as goal
 
 pub returns : goal.returns

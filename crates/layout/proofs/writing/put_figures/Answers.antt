@@ -5,8 +5,6 @@ use Rattle.numbers.proofs.Numbers.{length_bytes}
 use Rattle.numbers.specs.Bytes.{bytes_of}
 use Rattle.layout.specs.Bytes.{load_bytes, figures_bytes}
 use Rattle.layout.proofs.Sizes.{size_load}
-use native.Mathlib.Omega.{arith}
-use borrow.Author.Rules.{rules}
 use Rattle.layout.proofs.writing.put_figures.Goals as goal
 
 pub returns : goal.returns

@@ -5,7 +5,6 @@ use Rattle.numbers.proofs.Numbers.{length_bytes}
 use Rattle.numbers.specs.Bytes.{bytes_of}
 use Rattle.runs.specs.Figures.{turned}
 use Rattle.layout.specs.Bytes.{load_bytes}
-use borrow.Author.Rules.{rules}
 use Rattle.layout.proofs.writing.put_load.Goals as goal
 
 pub returns : goal.returns

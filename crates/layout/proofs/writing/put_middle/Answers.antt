@@ -5,7 +5,6 @@ use Rattle.numbers.proofs.Numbers.{length_bytes}
 use Rattle.numbers.specs.Bytes.{bytes_of}
 use Rattle.layout.specs.Bytes.{label_word, figures_bytes, middle_bytes}
 use Rattle.layout.proofs.Sizes.{size_figures}
-use borrow.Author.Rules.{rules}
 use Rattle.layout.proofs.writing.put_middle.Goals as goal
 
 pub returns : goal.returns

@@ -5,7 +5,6 @@ use Rattle.numbers.proofs.Numbers.{length_bytes}
 use Rattle.numbers.specs.Bytes.{bytes_of}
 use Rattle.layout.specs.Bytes.{run_bytes, middle_bytes, piece_bytes}
 use Rattle.layout.proofs.Sizes.{size_run, size_middle}
-use borrow.Author.Rules.{rules}
 use Rattle.layout.proofs.writing.put_pieces.Goals as goal
 
 pub returns : goal.returns

@@ -3,7 +3,6 @@ use Rattle.layout.proofs.Laying.{piece, laid_joined}
 use mathlib.Core.List.{[], ◌∷◌}
 use Rattle.layout.specs.Bytes.{shape_bytes, load_bytes, run_bytes}
 use Rattle.layout.proofs.Sizes.{size_shape, size_load}
-use borrow.Author.Rules.{rules}
 use Rattle.layout.proofs.writing.put_run.Goals as goal
 
 pub returns : goal.returns

@@ -4,7 +4,6 @@ use mathlib.Core.List.{[], ◌∷◌}
 use Rattle.numbers.proofs.Numbers.{length_bytes}
 use Rattle.numbers.specs.Bytes.{bytes_of}
 use Rattle.layout.specs.Bytes.{form_of, pre_of, inner_of, post_of, shape_bytes}
-use borrow.Author.Rules.{rules}
 use Rattle.layout.proofs.writing.put_shape.Goals as goal
 
 pub returns : goal.returns

@@ -1,7 +1,6 @@
 -- `layout::writing::put_track` meets its contract, kind by kind.
 use mathlib.Core.Path.{refl}
 use Rattle.layout.specs.Bytes.{track_bytes}
-use borrow.Author.Rules.{rules}
 use Rattle.layout.proofs.writing.put_track.Goals as goal
 
 pub returns-in-Nothing : goal.returns-in-Nothing

@@ -1,5 +1,5 @@
 -- `between` searches what `gather` has collected, which is what lies between the pivots.
-use Rattle.std.proofs.Common.{arith, rules}
+use Rattle.std.proofs.Common.{arith}
 use Rattle.percentile.proofs.Between.{collected_length, collected_asked}
 use Rattle.percentile.proofs.few.between.Goals as goal
 

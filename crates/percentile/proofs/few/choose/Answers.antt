@@ -1,6 +1,6 @@
 -- `choose` meets its contract: it asks the sample only for ranks that it has, and for a lower one first.
-use Rattle.std.proofs.Common.{ℕ, ◌*◌, ◌/◌, length, sym, refl, subst, inl, inr, ⊎_elim, arith, rules}
-use Rattle.percentile.proofs.Sample.{rank_within, Lower, chosen_ranked, chosen_end}
+use Rattle.std.proofs.Common.{◌*◌, ◌/◌, length, sym, refl, subst, inl, inr, arith}
+use Rattle.percentile.proofs.Sample.{rank_within, chosen_ranked, chosen_end}
 use Rattle.percentile.specs.Ranks.{Ranked}
 use Rattle.percentile.proofs.few.choose.Goals as goal
 use Rattle.percentile.proofs.few.choose.Goals.{then-at-gt-MARGIN, else-at-gt-MARGIN}

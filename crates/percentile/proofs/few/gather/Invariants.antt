@@ -1,8 +1,7 @@
 -- `gather` meets its contract. The invariant: what is kept, and what is left to keep, are all; so there is always room for one more.
-use Rattle.std.proofs.Common.{◌-◌, length, get_or, arith, rules}
+use Rattle.std.proofs.Common.{◌-◌, length}
 use Rattle.percentile.specs.Ranks.{inside}
-use Rattle.percentile.proofs.Counts.{hit_le_one}
-use Rattle.percentile.proofs.Gather.{Gathered, gathered_start, gathered_step, gathered_room_lem, gathered_end}
+use Rattle.percentile.proofs.Gather.{Gathered}
 use Rattle.percentile.proofs.few.gather.Given as goal
 
 abbrev pub invariant-loop-i : goal.invariant-loop-i

@@ -1,6 +1,6 @@
 -- `ranked` meets its contract by the counts at the pivots: one of them is the delay, or it lies between them, or the whole list is
 -- searched.
-use Rattle.std.proofs.Common.{arith, rules}
+use Rattle.std.proofs.Common.{arith}
 use Rattle.percentile.proofs.Between.{count_between_lem, ranked_between}
 use Rattle.percentile.proofs.few.ranked.Goals as goal
 

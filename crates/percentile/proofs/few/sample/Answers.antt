@@ -1,7 +1,7 @@
 -- `sample` meets its contract. Place i of 16,384 stands for i × length / 16,384, which is below the length; the invariant: what has been
 -- stored is listed.
-use Rattle.std.proofs.Common.{◌-◌, length, arith, rules}
-use Rattle.percentile.proofs.Sample.{spread_most, spread_within, Drawing, drawing_start, drawing_step, drawing_end}
+use Rattle.std.proofs.Common.{length, arith}
+use Rattle.percentile.proofs.Sample.{spread_most, spread_within, drawing_start, drawing_step, drawing_end}
 use Rattle.percentile.proofs.few.sample.Goals as goal
 
 pub loop-i-init : goal.loop-i-init

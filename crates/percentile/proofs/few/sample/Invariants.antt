@@ -1,6 +1,6 @@
 -- `sample` meets its contract. Place i of 16,384 stands for i × length / 16,384, which is below the length; the invariant: what has been
-use Rattle.std.proofs.Common.{◌-◌, length, arith, rules}
-use Rattle.percentile.proofs.Sample.{spread_most, spread_within, Drawing, drawing_start, drawing_step, drawing_end}
+use Rattle.std.proofs.Common.{◌-◌}
+use Rattle.percentile.proofs.Sample.{Drawing}
 use Rattle.percentile.proofs.few.sample.Given as goal
 
 abbrev pub invariant-loop-i : goal.invariant-loop-i

@@ -1,7 +1,7 @@
 -- `survey` meets its contract. The invariant: each count of the delays passed, and that of those left, make up the whole.
-use Rattle.std.proofs.Common.{◌≡◌, ℕ, ◌+◌, ◌-◌, Bool, ltb, leb, length, get_or, drop, lt_of_le_of_lt, List, ◌<◌, ◌^◌, w32, Fits, rules}
+use Rattle.std.proofs.Common.{◌≡◌, ℕ, ◌+◌, Bool, ltb, leb, length, get_or, drop, lt_of_le_of_lt, List, ◌<◌, ◌^◌, w32, Fits}
 use Rattle.percentile.specs.Percentile.{hit, how_many}
-use Rattle.percentile.proofs.Survey.{Seen, seen_start, seen_step, seen_end, counted_fits}
+use Rattle.percentile.proofs.Survey.{seen_start, seen_step, seen_end, counted_fits}
 use Rattle.percentile.proofs.few.survey.Goals as goal
 
 -- a count fits, since it is at most the length

@@ -1,7 +1,6 @@
 -- `survey` meets its contract. The invariant: each count of the delays passed, and that of those left, make up the whole.
-use Rattle.std.proofs.Common.{◌≡◌, ℕ, ◌+◌, ◌-◌, Bool, ltb, leb, length, get_or, drop, lt_of_le_of_lt, w32, Fits, rules}
-use Rattle.percentile.specs.Percentile.{hit, how_many}
-use Rattle.percentile.proofs.Survey.{Seen, seen_start, seen_step, seen_end, counted_fits}
+use Rattle.std.proofs.Common.{◌-◌, length}
+use Rattle.percentile.proofs.Survey.{Seen}
 use Rattle.percentile.proofs.few.survey.Given as goal
 
 abbrev pub invariant-loop-i : goal.invariant-loop-i

@@ -1,6 +1,6 @@
 -- `narrow` walks over the table to the bucket in which rank k lies. A bucket's begin fits, since fewer than k delays are below it.
-use Rattle.std.proofs.Common.{◌-◌, ◌^◌, arith, rules}
-use Rattle.percentile.proofs.Buckets.{Walk, walk_start, walk_count, walk_step, walk_found, walk_last, walk_fits}
+use Rattle.std.proofs.Common.{◌^◌, arith}
+use Rattle.percentile.proofs.Buckets.{walk_start, walk_count, walk_step, walk_found, walk_last, walk_fits}
 use Rattle.percentile.proofs.table.narrow.Goals as goal
 
 pub loop-q-init : goal.loop-q-init

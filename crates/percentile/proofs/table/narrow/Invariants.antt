@@ -1,6 +1,6 @@
 -- `narrow` walks over the table to the bucket in which rank k lies. A bucket's begin fits, since fewer than k delays are below it.
-use Rattle.std.proofs.Common.{◌-◌, ◌^◌, arith, rules}
-use Rattle.percentile.proofs.Buckets.{Walk, walk_start, walk_count, walk_step, walk_found, walk_last, walk_fits}
+use Rattle.std.proofs.Common.{◌-◌}
+use Rattle.percentile.proofs.Buckets.{Walk}
 use Rattle.percentile.proofs.table.narrow.Given as goal
 
 abbrev pub invariant-loop-q : goal.invariant-loop-q

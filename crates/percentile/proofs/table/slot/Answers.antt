@@ -1,5 +1,5 @@
 -- `slot` gives the one bucket in which a delay is counted: the quotient of its distance from lo, where that is a bucket's number.
-use Rattle.std.proofs.Common.{◌^◌, arith, pow_pos, pow_mono, rules}
+use Rattle.std.proofs.Common.{◌^◌, arith, pow_pos, pow_mono}
 use Rattle.percentile.proofs.Buckets.{slot_found, slot_outside}
 use Rattle.percentile.proofs.table.slot.Goals as goal
 

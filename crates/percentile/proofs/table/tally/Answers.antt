@@ -1,6 +1,6 @@
 -- `tally` counts the delays by buckets. The invariant: the table holds the counts of the delays passed.
-use Rattle.std.proofs.Common.{◌-◌, ◌^◌, length, arith, rules}
-use Rattle.percentile.proofs.Buckets.{Tallied, tallied_start, tallied_step, tallied_end}
+use Rattle.std.proofs.Common.{arith}
+use Rattle.percentile.proofs.Buckets.{tallied_start, tallied_step, tallied_end}
 use Rattle.percentile.proofs.table.tally.Goals as goal
 
 pub loop-i-init : goal.loop-i-init

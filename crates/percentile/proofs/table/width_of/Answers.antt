@@ -1,5 +1,5 @@
 -- `width_of` loses no bit: 2^s fits below 2^32.
-use Rattle.std.proofs.Common.{◌^◌, mod-eq_of_lt, one-mul, rules}
+use Rattle.std.proofs.Common.{◌^◌, mod-eq_of_lt, one-mul}
 use lib.Pow.{pow-lt}
 use Rattle.percentile.proofs.table.width_of.Goals as goal
 

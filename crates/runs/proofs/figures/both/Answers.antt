@@ -1,5 +1,4 @@
 -- `runs::figures::both` meets its contract: the sums fit by what it requires, and each field is the definition's.
-use borrow.Author.Rules.{rules}
 use Rattle.runs.specs.Figures.{both}
 use Rattle.runs.proofs.figures.both.Goals as goal
 

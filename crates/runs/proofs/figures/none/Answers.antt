@@ -1,5 +1,4 @@
 -- `runs::figures::none` meets its contract: no load, and nothing counted.
-use borrow.Author.Rules.{rules}
 use Rattle.runs.specs.Figures.{none}
 use Rattle.runs.proofs.figures.none.Goals as goal
 

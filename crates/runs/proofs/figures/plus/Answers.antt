@@ -1,5 +1,4 @@
 -- `runs::figures::plus` meets its contract: the sums fit by what it requires, and the loads go together by `both`.
-use borrow.Author.Rules.{rules}
 use Rattle.runs.specs.Figures.{plus}
 use Rattle.runs.proofs.figures.plus.Goals as goal
 

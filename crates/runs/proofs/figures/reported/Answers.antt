@@ -1,5 +1,4 @@
 -- `runs::figures::reported` meets its contract, value by value.
-use borrow.Author.Rules.{rules}
 use Rattle.runs.specs.Figures.{reported}
 use Rattle.runs.proofs.figures.reported.Goals as goal
 

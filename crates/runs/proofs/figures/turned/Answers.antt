@@ -1,5 +1,4 @@
 -- `runs::figures::turned` meets its contract, by whether a frame was delivered.
-use borrow.Author.Rules.{rules}
 use borrow.Author.Tests.{eq-eqb, ne_eqb}
 use Rattle.numbers.specs.Limits.{largest_delay}
 use Rattle.runs.specs.Figures.{turned}

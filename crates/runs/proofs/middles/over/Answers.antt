@@ -1,5 +1,4 @@
 -- `runs::middles::over` meets its contract, by the later label.
-use borrow.Author.Rules.{rules}
 use Rattle.runs.specs.Middles.{over}
 use Rattle.runs.proofs.middles.over.Goals as goal
 

@@ -1,5 +1,4 @@
 -- `runs::middles::placed` meets its contract, by the label.
-use borrow.Author.Rules.{rules}
 use Rattle.runs.specs.Middles.{placed}
 use Rattle.runs.proofs.middles.placed.Goals as goal
 

@@ -1,5 +1,4 @@
 -- `runs::middles::quiet_middle` meets its contract: the label alone is kept.
-use borrow.Author.Rules.{rules}
 use Rattle.runs.specs.Middles.{quiet_middle}
 use Rattle.runs.proofs.middles.quiet_middle.Goals as goal
 

@@ -1,5 +1,4 @@
 -- `runs::middles::shut` meets its contract: the run's figures, placed by its verdict.
-use borrow.Author.Rules.{rules}
 use Rattle.runs.specs.Middles.{shut}
 use Rattle.runs.proofs.middles.shut.Goals as goal
 

@@ -1,5 +1,4 @@
 -- `runs::middles::times` meets its contract, by the label of the earlier middle. What it requires keeps each sum in its field.
-use borrow.Author.Rules.{rules}
 use native.Mathlib.Omega.{arith}
 use Rattle.runs.specs.Middles.{times, times_by}
 use Rattle.runs.proofs.middles.times.Goals as goal

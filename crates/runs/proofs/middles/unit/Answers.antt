@@ -1,5 +1,4 @@
 -- `runs::middles::unit` meets its contract: it inherits and holds nothing.
-use borrow.Author.Rules.{rules}
 use Rattle.runs.specs.Middles.{unit}
 use Rattle.runs.proofs.middles.unit.Goals as goal
 

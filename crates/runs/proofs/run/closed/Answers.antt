@@ -1,5 +1,4 @@
 -- `runs::run::closed` meets its contract, by the edges. What it requires leaves room for both ends.
-use borrow.Author.Rules.{rules}
 use native.Mathlib.Omega.{arith}
 use Rattle.runs.specs.Runs.{closed}
 use Rattle.runs.proofs.Fitting.{span_split}

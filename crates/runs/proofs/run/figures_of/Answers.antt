@@ -1,5 +1,4 @@
 -- `runs::run::figures_of` meets its contract: the load, and what the mark and the edges say.
-use borrow.Author.Rules.{rules}
 use Rattle.runs.specs.Runs.{figures_of}
 use Rattle.runs.proofs.run.figures_of.Goals as goal
 

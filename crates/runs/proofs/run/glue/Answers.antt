@@ -1,5 +1,4 @@
 -- `runs::run::glue` meets its contract: lengths and loads add up, and the edges are tied.
-use borrow.Author.Rules.{rules}
 use Rattle.runs.specs.Runs.{glue}
 use Rattle.runs.proofs.run.glue.Goals as goal
 

@@ -1,5 +1,4 @@
 -- `runs::run::load_of` meets its contract, by whether the interval is in maintenance.
-use borrow.Author.Rules.{rules}
 use Rattle.runs.specs.Runs.{gross, load_of}
 use Rattle.runs.proofs.run.load_of.Goals as goal
 

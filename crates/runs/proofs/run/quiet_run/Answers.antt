@@ -1,5 +1,4 @@
 -- `runs::run::quiet_run` meets its contract: mark and length are kept.
-use borrow.Author.Rules.{rules}
 use Rattle.runs.specs.Runs.{quiet_run}
 use Rattle.runs.proofs.run.quiet_run.Goals as goal
 

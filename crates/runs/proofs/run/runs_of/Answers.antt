@@ -1,5 +1,4 @@
 -- `runs::run::runs_of` meets its contract, by the test.
-use borrow.Author.Rules.{rules}
 use native.Mathlib.Omega.{arith}
 use Rattle.runs.proofs.run.runs_of.Goals as goal
 

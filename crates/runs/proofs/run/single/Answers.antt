@@ -1,5 +1,4 @@
 -- `runs::run::single` meets its contract, by whether the interval is high and counts.
-use borrow.Author.Rules.{rules}
 use Rattle.runs.specs.Runs.{single}
 use Rattle.runs.proofs.run.single.Goals as goal
 

@@ -1,5 +1,4 @@
 -- `runs::run::tie` meets its contract, by the edges of both sides. What it requires bounds all that they count.
-use borrow.Author.Rules.{rules}
 use native.Mathlib.Omega.{arith}
 use Rattle.runs.specs.Runs.{tie}
 use Rattle.runs.proofs.Fitting.{span_solid, span_split}

@@ -1,5 +1,4 @@
 -- `word` meets its contract, and the word fits: the number is at most 9.
-use borrow.Author.Rules.{rules}
 use native.Mathlib.Omega.{arith}
 use Rattle.words.proofs.Faults.{number_most}
 use Rattle.words.proofs.word.word.Goals as goal
