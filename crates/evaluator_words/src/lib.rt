@@ -9,6 +9,11 @@ use evaluator::{Answer, Evaluator, Started, Stepped};
 use numbers::refusal::{Fault, Refusal};
 use words::word;
 
+// The words of an evaluator, and those of what a step settled.
+const EVALUATOR: usize = 13;
+
+const SETTLED: usize = 4;
+
 // The words of the label settings.
 fn put_settings(e: Evaluator, words: &mut [u64])
     requires { 13 ≤ length words.old }
@@ -87,7 +92,7 @@ pub fn mip_start(settings: &[u8], evaluator: &mut [u64]) -> u64
     match evaluator::start(settings) {
         Started::Refused(r) => word::word(r),
         Started::Ready(e) => {
-            if evaluator.len() < 13 {
+            if evaluator.len() < EVALUATOR {
                 return word::word(Refusal {
                     fault: Fault::Room,
                     place: 0,
@@ -109,13 +114,13 @@ pub fn mip_step(evaluator: &mut [u64], interval: &[u8], settled: &mut [u64]) -> 
             place: 0,
         });
     }
-    if evaluator.len() < 13 {
+    if evaluator.len() < EVALUATOR {
         return word::word(Refusal {
             fault: Fault::Length,
             place: 0,
         });
     }
-    if settled.len() < 4 {
+    if settled.len() < SETTLED {
         return word::word(Refusal {
             fault: Fault::Room,
             place: 0,

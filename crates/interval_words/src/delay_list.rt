@@ -7,6 +7,9 @@ use numbers::refusal::{Fault, Refusal};
 use settings::SettingsRead;
 use words::word;
 
+// The words of the answers.
+const ANSWERS: usize = 4;
+
 // Writes the four answers over the first words.
 fn put(f: Figures, answers: &mut [u64])
     requires { 4 ≤ length answers.old }
@@ -28,7 +31,7 @@ pub fn mip_delays(settings: &[u8], delays: &[u32], answers: &mut [u64]) -> u64
             place: 0,
         });
     };
-    if answers.len() < 4 {
+    if answers.len() < ANSWERS {
         return word::word(Refusal {
             fault: Fault::Room,
             place: 0,

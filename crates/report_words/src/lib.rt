@@ -16,6 +16,11 @@ use tallies::{Counts, Period, Totals};
 use verdicts::Verdicts;
 use words::word;
 
+// The words of a report, and those of the verdicts.
+const FIGURES: usize = 15;
+
+const VERDICTS: usize = 6;
+
 // The counts of a report.
 fn put_counts(r: Period, words: &mut [u64])
     requires { 15 ≤ length words.old }
@@ -96,7 +101,7 @@ pub fn mip_report(summaries: &[u8], figures: &mut [u64]) -> u64
     if summaries.len() != 3072 {
         return refused(Fault::Length);
     }
-    if figures.len() < 15 {
+    if figures.len() < FIGURES {
         return refused(Fault::Room);
     }
     match reports::report(summaries) {
@@ -124,7 +129,7 @@ pub fn mip_verdicts(settings: &[u8], pairs: u64, summaries: &[u8], answers: &mut
     if summaries.len() != pairs as usize * 3072 {
         return refused(Fault::Length);
     }
-    if answers.len() < 6 {
+    if answers.len() < VERDICTS {
         return refused(Fault::Room);
     }
     match sets::verdicts(settings, pairs, summaries) {

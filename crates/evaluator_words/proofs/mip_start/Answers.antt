@@ -8,11 +8,11 @@ use Rattle.evaluator_words.proofs.mip_start.Goals as goal
 pub word-requires : goal.word-requires
 word-requires c = omega (arith, start_place _ _ (sym c.start.ensures ∙ c.in-Refused.is))
 
-pub returns-then-evaluator-lt13 : goal.returns-then-evaluator-lt13
-returns-then-evaluator-lt13 c = start_short _ _ _ _ (sym c.start.ensures ∙ c.in-Ready.is) c.if-evaluator-lt13.true c.word-then-evaluator-lt13.ensures
+pub returns-then-evaluator-lt-EVALUATOR : goal.returns-then-evaluator-lt-EVALUATOR
+returns-then-evaluator-lt-EVALUATOR c = start_short _ _ _ _ (sym c.start.ensures ∙ c.in-Ready.is) c.if-evaluator-lt-EVALUATOR.true c.word-then-evaluator-lt-EVALUATOR.ensures
 
 pub returns-in-Refused : goal.returns-in-Refused
 returns-in-Refused c = start_refused _ _ _ _ (sym c.start.ensures ∙ c.in-Refused.is) c.word.ensures
 
-pub returns-else-evaluator-lt13 : goal.returns-else-evaluator-lt13
-returns-else-evaluator-lt13 c = started _ _ _ _ (sym c.start.ensures ∙ c.in-Ready.is) c.if-evaluator-lt13.false c.put.ensures
+pub returns-else-evaluator-lt-EVALUATOR : goal.returns-else-evaluator-lt-EVALUATOR
+returns-else-evaluator-lt-EVALUATOR c = started _ _ _ _ (sym c.start.ensures ∙ c.in-Ready.is) c.if-evaluator-lt-EVALUATOR.false c.put.ensures

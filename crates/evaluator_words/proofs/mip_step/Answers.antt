@@ -8,21 +8,21 @@ use Rattle.evaluator_words.proofs.mip_step.Goals as goal
 pub returns-then-interval-ne48 : goal.returns-then-interval-ne48
 returns-then-interval-ne48 c = other_length _ _ _ _ c.if-interval-ne48.true c.word.ensures
 
-pub returns-then-evaluator-lt13 : goal.returns-then-evaluator-lt13
-returns-then-evaluator-lt13 c = short_evaluator _ _ _ c.if-interval-ne48.false _ c.if-evaluator-lt13.true c.word-then-evaluator-lt13.ensures
+pub returns-then-evaluator-lt-EVALUATOR : goal.returns-then-evaluator-lt-EVALUATOR
+returns-then-evaluator-lt-EVALUATOR c = short_evaluator _ _ _ c.if-interval-ne48.false _ c.if-evaluator-lt-EVALUATOR.true c.word-then-evaluator-lt-EVALUATOR.ensures
 
-pub returns-then-settled-lt4 : goal.returns-then-settled-lt4
-returns-then-settled-lt4 c = short_answer _ _ _ c.if-interval-ne48.false c.if-evaluator-lt13.false _ c.if-settled-lt4.true c.word-then-settled-lt4.ensures
+pub returns-then-settled-lt-SETTLED : goal.returns-then-settled-lt-SETTLED
+returns-then-settled-lt-SETTLED c = short_answer _ _ _ c.if-interval-ne48.false c.if-evaluator-lt-EVALUATOR.false _ c.if-settled-lt-SETTLED.true c.word-then-settled-lt-SETTLED.ensures
 
 pub word-requires-in-Refused : goal.word-requires-in-Refused
 word-requires-in-Refused c = omega (arith, step_place _ _ _ (sym c.step.ensures ∙ c.in-Refused.is))
 
 pub returns-in-Refused : goal.returns-in-Refused
 returns-in-Refused c =
-    step_refused _ _ _ c.if-interval-ne48.false c.if-evaluator-lt13.false c.if-settled-lt4.false _ c.read.ensures _ _
+    step_refused _ _ _ c.if-interval-ne48.false c.if-evaluator-lt-EVALUATOR.false c.if-settled-lt-SETTLED.false _ c.read.ensures _ _
     (sym c.step.ensures ∙ c.in-Refused.is) c.word-in-Refused.ensures
 
 pub returns-in-Fed : goal.returns-in-Fed
 returns-in-Fed c =
-    stepped _ _ _ c.if-interval-ne48.false c.if-evaluator-lt13.false c.if-settled-lt4.false _ c.read.ensures _ _ _ _
+    stepped _ _ _ c.if-interval-ne48.false c.if-evaluator-lt-EVALUATOR.false c.if-settled-lt-SETTLED.false _ c.read.ensures _ _ _ _
     (sym c.step.ensures ∙ c.in-Fed.is) c.put.ensures c.put_settled.ensures

@@ -8,14 +8,14 @@ use Rattle.report_words.proofs.mip_report.Goals as goal
 pub returns-then-summaries-ne3072 : goal.returns-then-summaries-ne3072
 returns-then-summaries-ne3072 c = report_length _ _ _ c.if-summaries-ne3072.true c.refused.ensures
 
-pub returns-then-figures-lt15 : goal.returns-then-figures-lt15
-returns-then-figures-lt15 c = report_short _ _ c.if-summaries-ne3072.false _ c.if-figures-lt15.true c.refused-then-figures-lt15.ensures
+pub returns-then-figures-lt-FIGURES : goal.returns-then-figures-lt-FIGURES
+returns-then-figures-lt-FIGURES c = report_short _ _ c.if-summaries-ne3072.false _ c.if-figures-lt-FIGURES.true c.refused-then-figures-lt-FIGURES.ensures
 
 pub word-requires : goal.word-requires
 word-requires c = omega (arith, report_place _ _ (sym c.report.ensures ∙ c.in-Refused.is))
 
 pub returns-in-Refused : goal.returns-in-Refused
-returns-in-Refused c = report_refused _ _ c.if-summaries-ne3072.false c.if-figures-lt15.false _ _ (sym c.report.ensures ∙ c.in-Refused.is) c.word.ensures
+returns-in-Refused c = report_refused _ _ c.if-summaries-ne3072.false c.if-figures-lt-FIGURES.false _ _ (sym c.report.ensures ∙ c.in-Refused.is) c.word.ensures
 
 pub returns-in-Answered : goal.returns-in-Answered
-returns-in-Answered c = report_answered _ _ c.if-summaries-ne3072.false c.if-figures-lt15.false _ _ (sym c.report.ensures ∙ c.in-Answered.is) c.put_report.ensures
+returns-in-Answered c = report_answered _ _ c.if-summaries-ne3072.false c.if-figures-lt-FIGURES.false _ _ (sym c.report.ensures ∙ c.in-Answered.is) c.put_report.ensures

@@ -20,9 +20,9 @@ pub returns-then-summaries-pairs : goal.returns-then-summaries-pairs
 unfolding pairs
 returns-then-summaries-pairs c = verdicts_length _ _ _ _ _ (sym c.read.ensures ∙ c.in-Valid.is) (omega (arith, c.if-pairs-lt1.false)) (omega (arith, c.if-pairs-gt-PAIRS.false)) _ c.if-summaries-pairs.true c.refused-then-summaries-pairs.ensures
 
-pub returns-then-answers-lt6 : goal.returns-then-answers-lt6
+pub returns-then-answers-lt-VERDICTS : goal.returns-then-answers-lt-VERDICTS
 unfolding pairs
-returns-then-answers-lt6 c = verdicts_short _ _ _ _ _ (sym c.read.ensures ∙ c.in-Valid.is) (omega (arith, c.if-pairs-lt1.false)) (omega (arith, c.if-pairs-gt-PAIRS.false)) c.if-summaries-pairs.false _ c.if-answers-lt6.true c.refused-then-answers-lt6.ensures
+returns-then-answers-lt-VERDICTS c = verdicts_short _ _ _ _ _ (sym c.read.ensures ∙ c.in-Valid.is) (omega (arith, c.if-pairs-lt1.false)) (omega (arith, c.if-pairs-gt-PAIRS.false)) c.if-summaries-pairs.false _ c.if-answers-lt-VERDICTS.true c.refused-then-answers-lt-VERDICTS.ensures
 
 pub word-requires : goal.word-requires
 unfolding pairs
@@ -31,11 +31,11 @@ word-requires c = omega (arith, verdicts_place _ _ _ _ (sym c.verdicts.ensures �
 pub returns-in-Refused : goal.returns-in-Refused
 unfolding pairs
 returns-in-Refused c =
-    verdicts_refused _ _ _ _ _ (sym c.read.ensures ∙ c.in-Valid.is) (omega (arith, c.if-pairs-lt1.false)) (omega (arith, c.if-pairs-gt-PAIRS.false)) c.if-summaries-pairs.false c.if-answers-lt6.false _ _
+    verdicts_refused _ _ _ _ _ (sym c.read.ensures ∙ c.in-Valid.is) (omega (arith, c.if-pairs-lt1.false)) (omega (arith, c.if-pairs-gt-PAIRS.false)) c.if-summaries-pairs.false c.if-answers-lt-VERDICTS.false _ _
     (sym c.verdicts.ensures ∙ c.in-Refused.is) c.word.ensures
 
 pub returns-in-Answered : goal.returns-in-Answered
 unfolding pairs
 returns-in-Answered c =
-    verdicts_answered _ _ _ _ _ (sym c.read.ensures ∙ c.in-Valid.is) (omega (arith, c.if-pairs-lt1.false)) (omega (arith, c.if-pairs-gt-PAIRS.false)) c.if-summaries-pairs.false c.if-answers-lt6.false _ _
+    verdicts_answered _ _ _ _ _ (sym c.read.ensures ∙ c.in-Valid.is) (omega (arith, c.if-pairs-lt1.false)) (omega (arith, c.if-pairs-gt-PAIRS.false)) c.if-summaries-pairs.false c.if-answers-lt-VERDICTS.false _ _
     (sym c.verdicts.ensures ∙ c.in-Answered.is) c.put_verdicts.ensures
