@@ -1,5 +1,5 @@
 /* A `read` that is put before the C library's: every other call is interrupted before it reads anything, and the others read at most a few
- * thousand bytes. For x86-64, as the program is on every machine, and so with no header of this machine's C library. */
+ * thousand bytes. It makes the system call itself, for x86-64, since the C library's `read` is what it stands before. */
 
 int *__errno_location(void);
 

@@ -116,8 +116,8 @@ arguments_number l number b false false true fs xs h = refl
 arguments_number l number b false false false fs xs h = frames_told_lem l number b fs ∙ h
 
 module _ (s : List ℕ) (number maintenance : ℕ) where
-  interval_lines_lem : ℕ → List Line
-  interval_lines_lem ns =
+  lines_behind_room : ℕ → List Line
+  lines_behind_room ns =
       line (ltb frames (length s / 16)) 4 0
       ∷ line (leb intervals number) 5 0
       ∷ line (ltb 1 maintenance) 5 0
@@ -126,8 +126,8 @@ module _ (s : List ℕ) (number maintenance : ℕ) where
   interval_by_count :
       (l : LabelSettings) (whole room : Bool) →
       interval_told (measure.answer_of (measure.judged_count l (whole_if whole (length s / 16)) room number maintenance s))
-      ≡ first_line (line (not whole) 2 0 ∷ line (not room) 3 0 ∷ interval_lines_lem (measure.length_of l))
-  unfolding first_line interval_lines_lem measure.judged_frames
+      ≡ first_line (line (not whole) 2 0 ∷ line (not room) 3 0 ∷ lines_behind_room (measure.length_of l))
+  unfolding first_line lines_behind_room measure.judged_frames
   interval_by_count l false room = refl
   interval_by_count l true false = refl
   interval_by_count l true true =
@@ -139,7 +139,7 @@ module _ (s : List ℕ) (number maintenance : ℕ) where
   interval_by_settings :
       (x : SettingsRead) (room : Bool) →
       interval_told (measure.answer_of (measure.judged_settings x room number maintenance s))
-      ≡ first_line (line (bad_settings x) 1 0 ∷ line (ragged 16 s) 2 0 ∷ line (not room) 3 0 ∷ interval_lines_lem (nanoseconds x))
+      ≡ first_line (line (bad_settings x) 1 0 ∷ line (ragged 16 s) 2 0 ∷ line (not room) 3 0 ∷ lines_behind_room (nanoseconds x))
   unfolding first_line count_of
   interval_by_settings SettingsRead.Invalid room = refl
   interval_by_settings (SettingsRead.Valid v) room = interval_by_count v.label (eqb (length s % 16) 0) room
@@ -147,7 +147,7 @@ module _ (s : List ℕ) (number maintenance : ℕ) where
   pub interval_answers_number :
       (settings out : List ℕ) (at : ℕ) {answer : Answer} {after : List ℕ} → measure.Outcome settings s number maintenance out at answer after →
       interval_told answer ≡ first_line (interval_refusals settings s number maintenance (length out) at)
-  unfolding interval_refusals interval_lines_lem measure.judged
+  unfolding interval_refusals lines_behind_room measure.judged
   interval_answers_number settings out at o = ap interval_told o.answered ∙ interval_by_settings (settings_of settings) (has_room (length out) at 48)
 
 -- labels

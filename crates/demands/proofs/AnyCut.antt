@@ -181,11 +181,11 @@ module _ (l : LabelSettings) where
     cut_gives first (stretch settings s) h u k bytes g = stretch_gives settings u.0 u.1 u.2 first s h.0 h.1 k bytes g
     cut_gives first (group a b) h u k bytes (left, right, x, y, j) =
         let p = uncut_whole a h.0 in
-        let sound-left = left_sound first (uncut a) (uncut b) p.0 p.1 k in
-        let sound-right = right_sound first (uncut a) (uncut b) p.0 p.1 k in
-        let m = cut_gives first a h.0 u.0 sound-left left x in
-        let n = cut_gives (behind first (uncut a)) b h.1 u.1 sound-right right y in
-        let w = joined_gives first (uncut a) (uncut b) sound-left sound-right left right m.0 n.0 bytes j in
+        let sound_left = left_sound first (uncut a) (uncut b) p.0 p.1 k in
+        let sound_right = right_sound first (uncut a) (uncut b) p.0 p.1 k in
+        let m = cut_gives first a h.0 u.0 sound_left left x in
+        let n = cut_gives (behind first (uncut a)) b h.1 u.1 sound_right right y in
+        let w = joined_gives first (uncut a) (uncut b) sound_left sound_right left right m.0 n.0 bytes j in
         (w.0 ∙ ap summary_bytes (summary_both first (uncut a) (uncut b) p.0 p.1 k l), (m.1, n.1, w.1))
 
 -- what `summary` takes, wherever it is written: sound records

@@ -84,7 +84,7 @@ abbrev pub settled_left : Stepped → List ℕ → List ℕ
 settled_left (Stepped.Fed e a) words = over (settled_words a) words
 settled_left (Stepped.Refused r) words = words
 
-pub record StepLeft (words r settled : List ℕ) (result : ℕ) (after settledAfter : List ℕ) : Type 0 where
+pub record StepLeft (words r settled : List ℕ) (result : ℕ) (after settled_after : List ℕ) : Type 0 where
   pub word : result ≡ step_word (step_told words r (length settled))
   pub evaluator : after ≡ evaluator_left (step_told words r (length settled)) words
-  pub answer : settledAfter ≡ settled_left (step_told words r (length settled)) settled
+  pub answer : settled_after ≡ settled_left (step_told words r (length settled)) settled

@@ -105,14 +105,14 @@ pub waits :
 unfolding filled
 waits h next t piece rest n room valid e f all {after} put =
     let few : n < 48 = omega (arith, all, ap length f, rest_short piece) in
-    let as-put : after ≡ rest ++ drop (length rest) t = put ∙ ap (λ l. l ++ drop (length rest) t) (take-length rest) in (
+    let as_put : after ≡ rest ++ drop (length rest) t = put ∙ ap (λ l. l ++ drop (length rest) t) (take-length rest) in (
       (λ i.
           record {
             held = (e ∙ held_whole h piece) i;
-            tail = (ap (take n) as-put ∙ take_at rest (drop (length rest) t) n (sym all) ∙ f) i;
+            tail = (ap (take n) as_put ∙ take_at rest (drop (length rest) t) n (sym all) ∙ f) i;
           }),
       record {
-        room = ap length as-put ∙ simp (length-append, length-drop) (omega arith);
+        room = ap length as_put ∙ simp (length-append, length-drop) (omega arith);
         few = few;
         valid = subst Growing (sym e) (held_known h (whole_of piece) valid);
       },

@@ -63,32 +63,32 @@ module _ (left right out : List ℕ) (at : ℕ) where
   unfolding judged
   short_left h a = owed (bad (refusal Fault.Length 0)) (rw (ne_eqb (length left) 1024 h)) a refl
 
-  module _ (whole-left : length left ≡ 1024) where
+  module _ (whole_left : length left ≡ 1024) where
     pub short_right :
         {answer : Joined} → (length right ≡ 1024 → ⊥) → answer ≡ Joined.Refused (refusal Fault.Length 0) → Outcome left right out at answer out
     unfolding judged
-    short_right h a = owed (bad (refusal Fault.Length 0)) (rw (eq-eqb (length left) 1024 whole-left, ne_eqb (length right) 1024 h)) a refl
+    short_right h a = owed (bad (refusal Fault.Length 0)) (rw (eq-eqb (length left) 1024 whole_left, ne_eqb (length right) 1024 h)) a refl
 
-    module _ (whole-right : length right ≡ 1024) where
+    module _ (whole_right : length right ≡ 1024) where
       pub no_room :
           {answer : Joined} → has_room (length out) at 1024 ≡ false → answer ≡ Joined.Refused (refusal Fault.Room 0) → Outcome left right out at answer out
       unfolding judged
       no_room h a =
-          owed (bad (refusal Fault.Room 0)) (rw (eq-eqb (length left) 1024 whole-left, eq-eqb (length right) 1024 whole-right, h)) a refl
+          owed (bad (refusal Fault.Room 0)) (rw (eq-eqb (length left) 1024 whole_left, eq-eqb (length right) 1024 whole_right, h)) a refl
 
       module _ (room : has_room (length out) at 1024 ≡ true) where
         pub bad_left :
             {answer : Joined} → summary_of left ≡ SummaryRead.Invalid → answer ≡ Joined.Refused (refusal Fault.Field 0) → Outcome left right out at answer out
         unfolding judged
         bad_left h a =
-            owed (bad (refusal Fault.Field 0)) (rw (eq-eqb (length left) 1024 whole-left, eq-eqb (length right) 1024 whole-right, room, h)) a refl
+            owed (bad (refusal Fault.Field 0)) (rw (eq-eqb (length left) 1024 whole_left, eq-eqb (length right) 1024 whole_right, room, h)) a refl
 
         module _ (x : Summary) (read_left : summary_of left ≡ SummaryRead.Valid x) where
           pub bad_right :
               {answer : Joined} → summary_of right ≡ SummaryRead.Invalid → answer ≡ Joined.Refused (refusal Fault.Field 1) → Outcome left right out at answer out
           unfolding judged
           bad_right h a =
-              owed (bad (refusal Fault.Field 1)) (rw (eq-eqb (length left) 1024 whole-left, eq-eqb (length right) 1024 whole-right, room, read_left, h)) a refl
+              owed (bad (refusal Fault.Field 1)) (rw (eq-eqb (length left) 1024 whole_left, eq-eqb (length right) 1024 whole_right, room, read_left, h)) a refl
 
           module _ (y : Summary) (read_right : summary_of right ≡ SummaryRead.Valid y) where
             pub other_settings :
@@ -96,7 +96,7 @@ module _ (left right out : List ℕ) (at : ℕ) where
             unfolding judged
             other_settings h a =
                 owed (bad (refusal Fault.Mismatch 1))
-                (rw (eq-eqb (length left) 1024 whole-left, eq-eqb (length right) 1024 whole-right, room, read_left, read_right, h)) a refl
+                (rw (eq-eqb (length left) 1024 whole_left, eq-eqb (length right) 1024 whole_right, room, read_left, read_right, h)) a refl
 
             module _ (same : same_label x.label y.label ≡ true) where
               pub apart :
@@ -104,14 +104,14 @@ module _ (left right out : List ℕ) (at : ℕ) where
               unfolding judged
               apart h a =
                   owed (bad (refusal Fault.Order 1))
-                  (rw (eq-eqb (length left) 1024 whole-left, eq-eqb (length right) 1024 whole-right, room, read_left, read_right, same, ne_eqb x.after y.first h)) a refl
+                  (rw (eq-eqb (length left) 1024 whole_left, eq-eqb (length right) 1024 whole_right, room, read_left, read_right, same, ne_eqb x.after y.first h)) a refl
 
               pub made :
                   {after : List ℕ} → x.after ≡ y.first → after ≡ placed out at (summary_bytes (joined_of x y)) → Outcome left right out at Joined.Written after
               unfolding judged
               made h b =
                   owed (good (joined_of x y))
-                  (rw (eq-eqb (length left) 1024 whole-left, eq-eqb (length right) 1024 whole-right, room, read_left, read_right, same, eq-eqb x.after y.first h)) refl b
+                  (rw (eq-eqb (length left) 1024 whole_left, eq-eqb (length right) 1024 whole_right, room, read_left, read_right, same, eq-eqb x.after y.first h)) refl b
 
 -- two results that the contract allows are one
 pub outcomes_coincide :

@@ -147,16 +147,16 @@ module _ (s r out : List ℕ) (at : ℕ) (after : List ℕ) where
     by_room whole false e = not_refused e
     by_room whole true e = by_records whole (checked 0 0 (intervals_in r)) refl e
 
-    by_count_lem : (z : Bool) → eqb (length r % 48) 0 ≡ z → outcome Labelled.Written after ≡ when_counted v.label r out at (whole_if z (length r / 48)) → Written s r out at after
-    by_count_lem false h e = not_refused e
-    by_count_lem true h e = by_room (eqb-true (length r % 48) 0 h) (has_room (length out) at (2 * (length r / 48))) e
+    by_count : (z : Bool) → eqb (length r % 48) 0 ≡ z → outcome Labelled.Written after ≡ when_counted v.label r out at (whole_if z (length r / 48)) → Written s r out at after
+    by_count false h e = not_refused e
+    by_count true h e = by_room (eqb-true (length r % 48) 0 h) (has_room (length out) at (2 * (length r / 48))) e
 
-  by_settings_lem : (x : SettingsRead) → settings_of s ≡ x → outcome Labelled.Written after ≡ when_read r out at x → Written s r out at after
+  by_settings : (x : SettingsRead) → settings_of s ≡ x → outcome Labelled.Written after ≡ when_read r out at x → Written s r out at after
   unfolding count_of
-  by_settings_lem SettingsRead.Invalid h e = not_refused e
-  by_settings_lem (SettingsRead.Valid v) h e = by_count_lem v h (eqb (length r % 48) 0) refl e
+  by_settings SettingsRead.Invalid h e = not_refused e
+  by_settings (SettingsRead.Valid v) h e = by_count v h (eqb (length r % 48) 0) refl e
 
   -- the contract of `labels`, where it answers that it wrote
   pub labels_written : outcome Labelled.Written after ≡ labels_of s r out at → Written s r out at after
   unfolding labels_of
-  labels_written e = by_settings_lem (settings_of s) refl e
+  labels_written e = by_settings (settings_of s) refl e

@@ -42,10 +42,10 @@ unfolding intervals_in
 sound_length s e =
     sym (length-map (intervals_of (intervals_in s)) IntervalRead.Valid) ∙ ap length (sym (sound_all 0 0 (intervals_in s) e)) ∙ each_many interval_of 48 s (length s / 48) 0
 
-get_d_valid : (vs : List Interval) (k : ℕ) → k < length vs → (d : Interval) → get_or (map IntervalRead.Valid vs) k IntervalRead.Invalid ≡ IntervalRead.Valid (get_or vs k d)
-get_d_valid [] k h d = absurd (omega arith)
-get_d_valid (v ∷ vs) zero h d = refl
-get_d_valid (v ∷ vs) (suc k) h d = get_d_valid vs k (omega arith) d
+get_or_valid : (vs : List Interval) (k : ℕ) → k < length vs → (d : Interval) → get_or (map IntervalRead.Valid vs) k IntervalRead.Invalid ≡ IntervalRead.Valid (get_or vs k d)
+get_or_valid [] k h d = absurd (omega arith)
+get_or_valid (v ∷ vs) zero h d = refl
+get_or_valid (v ∷ vs) (suc k) h d = get_or_valid vs k (omega arith) d
 
 -- the k-th record says the k-th interval
 pub sound_at :
@@ -55,7 +55,7 @@ unfolding intervals_in
 sound_at s e k h d =
     sym (rw zero-add at (reads_at (length s / 48) s 0 k h))
     ∙ ap (λ (xs : List IntervalRead). get_or xs k IntervalRead.Invalid) (sound_all 0 0 (intervals_in s) e)
-    ∙ get_d_valid (intervals_of (intervals_in s)) k (rw (sound_length s e) h) d
+    ∙ get_or_valid (intervals_of (intervals_in s)) k (rw (sound_length s e) h) d
 
 -- so the k-th record is valid
 pub sound_kth : (s : List ℕ) → checked 0 0 (intervals_in s) ≡ Sequence.Sound → (k : ℕ) → k < length s / 48 → (v : Interval) × (interval_of (record_at s 48 k) ≡ IntervalRead.Valid v)

@@ -13,15 +13,15 @@ use Rattle.numbers.specs.Bytes.{number, number_at, part, are_zero}
 use Rattle.layout.specs.Reading.{load_in, figures_in, run_in, middle_in, track_by, track_in, load_words, run_words, middle_words, words_by, words_meet}
 
 module _ (pre s : List ℕ) where
-  get_d_behind : (i : ℕ) → get_or (pre ++ s) (length pre + i) 0 ≡ get_or s i 0
-  get_d_behind i = get_or-append-add pre s i 0
+  get_or_behind : (i : ℕ) → get_or (pre ++ s) (length pre + i) 0 ≡ get_or s i 0
+  get_or_behind i = get_or-append-add pre s i 0
 
   part_behind : (w i : ℕ) → part w (pre ++ s) (length pre + i) ≡ part w s i
   unfolding part
   part_behind zero i = refl
   part_behind (suc w) i =
       let e : suc (length pre + i) ≡ length pre + suc i = omega arith in
-      let f = get_d_behind i in
+      let f = get_or_behind i in
       let r = part_behind w (suc i) in
       rw (e, f, r)
 
@@ -34,7 +34,7 @@ module _ (pre s : List ℕ) where
   zeros_behind zero i = refl
   zeros_behind (suc w) i =
       let e : suc (length pre + i) ≡ length pre + suc i = omega arith in
-      let f = get_d_behind i in
+      let f = get_or_behind i in
       let r = zeros_behind w (suc i) in
       rw (e, f, r)
 

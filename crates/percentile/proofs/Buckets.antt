@@ -85,9 +85,9 @@ module _
     (lo w x d : ℕ)
     (positive : 0 < w)
     (small : w ≤ 2 ^ 31)
-    (x_Fits : x < 2 ^ 32)
-    (lo-fits : lo < 2 ^ 32)
-    (d-fits : d < 2 ^ 64)
+    (x_fits : x < 2 ^ 32)
+    (lo_fits : lo < 2 ^ 32)
+    (d_fits : d < 2 ^ 64)
     (wraps : (d + lo) % 2 ^ 64 ≡ x)
   where
     plain : lo ≤ x → d ≡ x - lo
@@ -122,8 +122,8 @@ pub record Tallied (xs : List ℕ) (lo w i : ℕ) (t : List ℕ) : Type 0 where
       → get_or t b 0 + below (lo + (b + 1) * w) (drop i xs) + below (lo + b * w) xs
       ≡ below (lo + (b + 1) * w) xs + below (lo + b * w) (drop i xs)
 
-get_d_zeros : (n b : ℕ) → ◌≡◌ {A = ℕ} (get_or (replicate n 0) b 0) 0
-get_d_zeros n b =
+get_or_zeros : (n b : ℕ) → ◌≡◌ {A = ℕ} (get_or (replicate n 0) b 0) 0
+get_or_zeros n b =
     elim (dec_lt b n) [
       | yes h ↦ get_or-replicate {A = ℕ} n b 0 0 h
       | no h ↦ get_or-eq_default {A = ℕ} (replicate n 0) 0 (omega (arith, length-replicate {A = ℕ} n 0))
@@ -134,8 +134,8 @@ tallied_start xs lo w =
     record {
       within = zero-le;
       long = length-replicate {A = ℕ} 2056 0;
-      small = λ b. omega (arith, get_d_zeros 2056 b);
-      counts = λ b p. omega (arith, get_d_zeros 2056 b);
+      small = λ b. omega (arith, get_or_zeros 2056 b);
+      counts = λ b p. omega (arith, get_or_zeros 2056 b);
     }
 
 pub tallied_step : (xs : List ℕ) (lo w i : ℕ) (t : List ℕ) (q : ℕ) → i < length xs → Tallied xs lo w i t

@@ -58,7 +58,7 @@ module _ (l : Load) (least : ℕ) (held : l.headroom ≡ turned l.sent l.lost le
     where
       by : Dec (l.lost < l.sent) → LoadValid l
       by (yes q) =
-          let turned-is : l.headroom ≡ largest_delay - least = omega (arith, held, turned_heard l.sent l.lost least q) in
+          let turned_is : l.headroom ≡ largest_delay - least = omega (arith, held, turned_heard l.sent l.lost least q) in
           let room : largest_delay - l.headroom ≡ least = omega (arith, v.ordered, v.within) in
           record {
             few = v.few;
@@ -104,19 +104,19 @@ abbrev least_of : Load → ℕ
 least_of l = turned l.sent l.lost l.headroom
 
 -- two loads that hold the headrooms of these least delays
-module _ (a b : Load) (x y : ℕ) (x-held : a.headroom ≡ turned a.sent a.lost x) (y-held : b.headroom ≡ turned b.sent b.lost y) (x-small : x ≤ largest_delay) (y-small : y ≤ largest_delay) where
+module _ (a b : Load) (x y : ℕ) (x_held : a.headroom ≡ turned a.sent a.lost x) (y_held : b.headroom ≡ turned b.sent b.lost y) (x_small : x ≤ largest_delay) (y_small : y ≤ largest_delay) where
   -- where both have delivered frames, the lesser
   pub lesser_of_both : a.lost < a.sent → b.lost < b.sent → least_of (both a b) ≡ min x y
   unfolding both
   lesser_of_both p q =
-      let x-turned : a.headroom ≡ largest_delay - x = x-held ∙ turned_heard a.sent a.lost x p in
-      let y-turned : b.headroom ≡ largest_delay - y = y-held ∙ turned_heard b.sent b.lost y q in
+      let x_turned : a.headroom ≡ largest_delay - x = x_held ∙ turned_heard a.sent a.lost x p in
+      let y_turned : b.headroom ≡ largest_delay - y = y_held ∙ turned_heard b.sent b.lost y q in
       turned_heard _ _ _ (omega arith) ∙ omega arith
 
   -- where one has none, the other's; `both` is the same the other way round
   pub other_of_both : a.sent ≡ a.lost → x ≡ 0 → b.lost < b.sent → least_of (both a b) ≡ y
   unfolding both
   other_of_both p none q =
-      let x-turned : a.headroom ≡ x = x-held ∙ turned_silent a.sent a.lost x p in
-      let y-turned : b.headroom ≡ largest_delay - y = y-held ∙ turned_heard b.sent b.lost y q in
+      let x_turned : a.headroom ≡ x = x_held ∙ turned_silent a.sent a.lost x p in
+      let y_turned : b.headroom ≡ largest_delay - y = y_held ∙ turned_heard b.sent b.lost y q in
       turned_heard _ _ _ (omega arith) ∙ omega arith

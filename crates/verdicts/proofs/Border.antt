@@ -65,22 +65,22 @@ last_settled n t (m ∷ ms) k d h = by (settles n t m) refl k h (λ j e. last_se
         ((j : ℕ) → length (told n (settling m) ms) ≡ 0 + suc j → get_or (told n (settling m) ms) (0 + j) d ≡ get_or ms j d) →
         ((j : ℕ) → length (told n (waiting t) ms) ≡ t.pending + 1 + suc j → get_or (told n (waiting t) ms) (t.pending + 1 + j) d ≡ get_or ms j d) →
         get_or (told n t (m ∷ ms)) (t.pending + k) d ≡ get_or (m ∷ ms) k d
-    by true e zero h settles-it waits =
+    by true e zero h settles_it waits =
         ap (λ xs. get_or xs (t.pending + 0) d) (told_settling n t m ms e)
         ∙ get_or-append (replicate (t.pending + 1) m) (told n (settling m) ms) d (t.pending + 0) (omega (arith, length-replicate (t.pending + 1) m))
         ∙ get_or-replicate (t.pending + 1) (t.pending + 0) m d (omega arith)
-    by true e (suc k) h settles-it waits =
+    by true e (suc k) h settles_it waits =
         let many = ap length (told_settling n t m ms e) ∙ settled_length t.pending m (told n (settling m) ms) in
         let place : t.pending + suc k ≡ length (replicate (t.pending + 1) m) + k = omega (arith, length-replicate (t.pending + 1) m) in
         ap (λ xs. get_or xs (t.pending + suc k) d) (told_settling n t m ms e)
         ∙ ap (λ i. get_or (replicate (t.pending + 1) m ++ told n (settling m) ms) i d) place
         ∙ get_or-append-add (replicate (t.pending + 1) m) (told n (settling m) ms) k d
         ∙ ap (λ i. get_or (told n (settling m) ms) i d) (sym (zero-add k))
-        ∙ settles-it k (omega (arith, many, h))
-    by false e zero h settles-it waits =
+        ∙ settles_it k (omega (arith, many, h))
+    by false e zero h settles_it waits =
         let same = ap length (told_waiting n t m ms e) in
         elim (told_past_pending n (waiting t) ms) [ inl r ↦ absurd (omega (arith, same, r, h)) | inr r ↦ absurd (omega (arith, same, r, h)) ]
-    by false e (suc k) h settles-it waits =
+    by false e (suc k) h settles_it waits =
         let place : t.pending + suc k ≡ t.pending + 1 + k = omega arith in
         ap (λ xs. get_or xs (t.pending + suc k) d) (told_waiting n t m ms e)
         ∙ ap (λ i. get_or (told n (waiting t) ms) i d) place

@@ -1,4 +1,4 @@
--- `gathering::go_on` meets its contract: at each turn the laws of `Gathering` and `Segments` say what the record at k does. Once both
+-- What stands at each turn of `gathering::go_on`: both tracks as gathered so far, and the segment behind them. Each turn leaves a record fewer.
 use Prim.Native.Nat.{◌-◌}
 use Rattle.gathering.proofs.Segments.{Going, of_first}
 use Rattle.gathering.proofs.go_on.Given as goal

@@ -1,4 +1,4 @@
--- `gathering::go_on_several` meets its contract: at each turn the laws of `Gathering` and `Segments` say what the record at k does. The
+-- What stands at each turn of `gathering::go_on_several`: both tracks, whose first runs stay, and the segment behind them. Each turn leaves a record fewer.
 use Prim.Native.Nat.{◌-◌}
 use Rattle.tracks.specs.declared.Track.TheVariants.{Many}
 use Rattle.gathering.proofs.Segments.{Going, of_rest}

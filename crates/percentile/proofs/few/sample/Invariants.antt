@@ -1,4 +1,4 @@
--- `sample` meets its contract. Place i of 16,384 stands for i × length / 16,384, which is below the length; the invariant: what has been
+-- What stands at each turn of `sample`: what has been stored is listed.
 use Rattle.std.proofs.Common.{◌-◌}
 use Rattle.percentile.proofs.Sample.{Drawing}
 use Rattle.percentile.proofs.few.sample.Given as goal
