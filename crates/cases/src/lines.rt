@@ -1,6 +1,7 @@
 // The lines of a text, the words of a line, and the numbers that words are. Words stand between single spaces, so that a word may be empty; what is past
 // the last is empty too.
-ghost use Rattle.std.specs.Prelude.{◌≤◌, length, IfOk};
+ghost use Rattle.std.specs.Io.KnownBytes.{Consumes, IsAtEnd};
+ghost use Rattle.std.specs.Prelude.{ℕ, ◌<◌, ◌≤◌, length, take, IfOk};
 
 use numbers::bytes;
 use std::io::{ErrorKind, Read};
@@ -11,22 +12,25 @@ const SPACE: u8 = b' ';
 const END: u8 = b'\n';
 
 // Reads until `text` is full or the input ends, and says how many bytes that is. A read that a signal interrupts has read nothing.
-pub fn read_full(input: &mut impl Read, text: &mut [u8]) -> io::Result<usize>
-    ensures { IfOk result (λ n. n ≤ length text.new) }
+pub fn read_full<R: Read>(input: &mut R, text: &mut [u8]) -> io::Result<usize>
+    ensures bound { IfOk result (λ n. n ≤ length text.new) }
+    ensures bytes { IfOk result (λ n. Consumes (R.remaining input.old) (R.remaining input.new) (take n text.new)) }
+    ensures end { IfOk result (λ n. n < length text.new → IsAtEnd (R.remaining input.new)) }
 {
     let mut done: usize = 0;
-    for _ in 0..u64::MAX {
+    let mut tries = u64::MAX;
+    loop {
         match input.read(&mut text[done..]) {
             Ok(0) => return Ok(done),
             Ok(n) => done += n,
             Err(e) => {
-                if e.kind() != ErrorKind::Interrupted {
+                if tries == 0 || e.kind() != ErrorKind::Interrupted {
                     return Err(e);
                 }
+                tries -= 1;
             }
         }
     }
-    Ok(done)
 }
 
 fn bit(b: bool) -> usize {
