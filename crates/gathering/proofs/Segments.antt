@@ -6,6 +6,7 @@ use mathlib.Core.Bool.{Bool, true, false, cond, ◌&&◌, beq, and-eq-true_iff}
 use mathlib.Core.List.{List}
 use Prim.Native.Nat.{ℕ, ◌+◌, ◌-◌, ◌≤◌, ◌<◌}
 use native.Mathlib.Omega.{arith}
+use Rattle.std.specs.Prelude.{Some, Result}
 use Rattle.numbers.specs.Limits.{intervals}
 use Rattle.numbers.specs.Many.{record_at}
 use Rattle.settings.specs.Settings.{label_meets}
@@ -13,7 +14,6 @@ use Rattle.settings.specs.declared.LabelSettings.{LabelSettings}
 use Rattle.intervals.specs.Interval.{interval_of}
 use Rattle.intervals.specs.Sequence.{reads_from}
 use Rattle.intervals.specs.declared.Interval.{Interval}
-use Rattle.intervals.specs.declared.IntervalRead.{IntervalRead}
 use Rattle.intervals.proofs.IntervalRecord.{IntervalValid, interval_valid}
 use Rattle.labels.specs.Marked.{counts_of, loss_mark, composite_mark, both_high}
 use Rattle.labels.specs.declared.marks.Both.{Both}
@@ -35,8 +35,9 @@ use Rattle.tracks.proofs.Deciding.{beq_yes}
 use Rattle.tracks.proofs.Joining.{push_glue, push_many}
 use Rattle.tracks.proofs.Keeping.{push_valid}
 use Rattle.gathering.specs.Gathering.{onwards, toned, Held, Begun, Gone}
-use Rattle.gathering.specs.declared.Gathered.{Gathered}
 use Rattle.gathering.proofs.Gathering.{on_next}
+use Rattle.numbers.specs.declared.refusal.Refusal.{Refusal}
+use Rattle.summaries.specs.declared.Summary.{Summary}
 
 -- an interval as a segment
 
@@ -174,17 +175,17 @@ next_to :
 next_to n p a g h m v ea et eg eh = cc (segment_next n p a m h g v)
 
 -- what is made of n records, the first of which is the segment `start` with these marks
-abbrev pub of_first : LabelSettings → List ℕ → ℕ → ℕ → Run → Both → Gathered
+abbrev pub of_first : LabelSettings → List ℕ → ℕ → ℕ → Run → Both → Result Summary Refusal
 of_first l s n first start begun =
     onwards l first (first + 1) 1 (One (toned begun.loss start)) (One (toned begun.composite start)) (reads_from (n - 1) s 1)
 
 -- what is made of the records from the k-th on, behind two tracks and a segment with these marks
-abbrev pub of_rest : LabelSettings → List ℕ → ℕ → ℕ → Track → Track → Run → Both → ℕ → ℕ → Gathered
+abbrev pub of_rest : LabelSettings → List ℕ → ℕ → ℕ → Track → Track → Run → Both → ℕ → ℕ → Result Summary Refusal
 of_rest l s n first a b g h next k =
     onwards l first next k (push l.n l.p a (toned h.loss g)) (push l.n l.p b (toned h.composite g)) (reads_from (n - k) s k)
 
 -- the loop over the records before the k-th: what is made of all, x, is what is made of the rest
-pub record Going (l : LabelSettings) (s : List ℕ) (n first : ℕ) (x : Gathered) (a b : Track) (g : Run) (h : Both) (next k : ℕ) : Type 0 where
+pub record Going (l : LabelSettings) (s : List ℕ) (n first : ℕ) (x : Result Summary Refusal) (a b : Track) (g : Run) (h : Both) (next k : ℕ) : Type 0 where
   pub numbered : next ≡ first + k
   pub few : next ≤ intervals
   pub held : Held l a b g k
@@ -203,20 +204,20 @@ pub going_gone :
 going_gone l s n first a b g h next k w = record { numbered = w.numbered; few = w.few; held = w.held; goes_on = refl }
 
 pub gone_going :
-    (l : LabelSettings) (s : List ℕ) (n first : ℕ) (x : Gathered) (a b : Track) (g : Run) (h : Both) (next k : ℕ) {a' b' : Track} →
+    (l : LabelSettings) (s : List ℕ) (n first : ℕ) (x : Result Summary Refusal) (a b : Track) (g : Run) (h : Both) (next k : ℕ) {a' b' : Track} →
     Going l s n first x a b g h next k → label_meets l ≡ true → a ≡ a' → b ≡ b' → Gone l first a' b' g next k
 gone_going l s n first x a b g h next k w valid ea eb =
     record { valid = valid; numbered = w.numbered; few = w.few; held = rw (← ea, ← eb) w.held }
 
 pub made_on :
-    (l : LabelSettings) (s : List ℕ) (n first : ℕ) (x : Gathered) (a b : Track) (g : Run) (h : Both) (next k : ℕ) {a' b' : Track} {r : Gathered} →
+    (l : LabelSettings) (s : List ℕ) (n first : ℕ) (x : Result Summary Refusal) (a b : Track) (g : Run) (h : Both) (next k : ℕ) {a' b' : Track} {r : (Result Summary Refusal)} →
     Going l s n first x a b g h next k → a ≡ a' → b ≡ b' → r ≡ of_rest l s n first a' b' g h next k → r ≡ x
 made_on l s n first x a b g h next k w ea eb e = cc w.goes_on
 
 module _
-    (l : LabelSettings) (s : List ℕ) (n first : ℕ) (x : Gathered) (a b : Track) (g : Run) (h : Both) (next k : ℕ)
+    (l : LabelSettings) (s : List ℕ) (n first : ℕ) (x : Result Summary Refusal) (a b : Track) (g : Run) (h : Both) (next k : ℕ)
     (w : Going l s n first x a b g h next k)
-    (v : Interval) (more : k < n) (e : interval_of (record_at s 48 k) ≡ IntervalRead.Valid v) (due : v.number ≡ next)
+    (v : Interval) (more : k < n) (e : interval_of (record_at s 48 k) ≡ Some v) (due : v.number ≡ next)
   where
     pub going_valid : IntervalValid v
     going_valid = interval_valid (record_at s 48 k) v e

@@ -1,5 +1,6 @@
 -- The laws of this crate that others cite.
 pub mod Bounds
+pub mod LittleEndian
 pub mod Numbers
 pub mod Parts
 pub mod Products

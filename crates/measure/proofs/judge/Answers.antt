@@ -2,8 +2,8 @@
 use mathlib.Core.Path.{ap, sym, ◌∙◌}
 use native.Mathlib.Omega.{arith}
 use lib.Dec.{eqb}
+use Rattle.std.specs.Prelude.{Ok}
 use Rattle.numbers.specs.Limits.{frames, intervals}
-use Rattle.measure.specs.declared.Judged.{Judged}
 use Rattle.measure.proofs.Judging.{of_taken, judged_full, judged_number, judged_flag, judged_taken, end_fits}
 use Rattle.measure.proofs.judge.Goals as goal
 
@@ -39,7 +39,7 @@ take_frames-taken-requires c = (c.if-n.false, end_fits c.args.l.length c.args.nu
 pub returns-in-All : goal.returns-in-All
 unfolding frames intervals
 returns-in-All c = let a = c.args in
-    ap Judged.Good c.finish.ensures ∙ ap (of_taken a.number (eqb a.maintenance 1)) (sym c.in-All.is) ∙ judged_taken a.l a.n a.number a.maintenance a.s.now c.if-n.false c.if-number.false c.if-maintenance-gt1.false c.take_frames-taken.ensures
+    ap Ok c.finish.ensures ∙ ap (of_taken a.number (eqb a.maintenance 1)) (sym c.in-All.is) ∙ judged_taken a.l a.n a.number a.maintenance a.s.now c.if-n.false c.if-number.false c.if-maintenance-gt1.false c.take_frames-taken.ensures
 
 pub returns-in-Not : goal.returns-in-Not
 unfolding frames intervals
