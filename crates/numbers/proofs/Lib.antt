@@ -4,6 +4,7 @@ pub mod LittleEndian
 pub mod Numbers
 pub mod Parts
 pub mod Products
+pub mod Refused
 pub mod Rules
 pub mod Window
 pub mod Words
