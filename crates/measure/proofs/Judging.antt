@@ -74,32 +74,32 @@ end_fits length number h known =
 
 module _ (settings s : List ℕ) (number maintenance : ℕ) (out : List ℕ) (at : ℕ) where
   owed :
-      {answer : (Result (Unit {0}) Refusal)} {after : List ℕ} (j : Result Interval Refusal) →
+      {answer : Result (Unit {0}) Refusal} {after : List ℕ} (j : Result Interval Refusal) →
       judged settings s number maintenance (length out) at ≡ j → answer ≡ answer_of j → after ≡ left_of j out at → Outcome settings s number maintenance out at answer after
   owed j e a b = record { answered = a ∙ ap answer_of (sym e); left = b ∙ ap (λ k. left_of k out at) (sym e) }
 
   pub no_settings :
-      {answer : (Result (Unit {0}) Refusal)} → settings_of settings ≡ None → answer ≡ Err (refusal Fault.Settings 0) → Outcome settings s number maintenance out at answer out
+      {answer : Result (Unit {0}) Refusal} → settings_of settings ≡ None → answer ≡ Err (refusal Fault.Settings 0) → Outcome settings s number maintenance out at answer out
   unfolding judged
   no_settings e a = owed (Err (refusal Fault.Settings 0)) (rw e) a refl
 
   module _ (v : Settings) (valid : settings_of settings ≡ Some v) where
     pub no_length :
-        {answer : (Result (Unit {0}) Refusal)} → count_of (length s) 16 ≡ None → answer ≡ Err (refusal Fault.Length 0) → Outcome settings s number maintenance out at answer out
+        {answer : Result (Unit {0}) Refusal} → count_of (length s) 16 ≡ None → answer ≡ Err (refusal Fault.Length 0) → Outcome settings s number maintenance out at answer out
     unfolding judged
     no_length e a = owed (Err (refusal Fault.Length 0)) (rw (valid, e)) a refl
 
     module _ (n : ℕ) (whole : count_of (length s) 16 ≡ Some n) where
       pub no_room :
-          {answer : (Result (Unit {0}) Refusal)} → has_room (length out) at 48 ≡ false → answer ≡ Err (refusal Fault.Room 0) → Outcome settings s number maintenance out at answer out
+          {answer : Result (Unit {0}) Refusal} → has_room (length out) at 48 ≡ false → answer ≡ Err (refusal Fault.Room 0) → Outcome settings s number maintenance out at answer out
       unfolding judged
       no_room e a = owed (Err (refusal Fault.Room 0)) (rw (valid, whole, e)) a refl
 
       module _ (room : has_room (length out) at 48 ≡ true) where
         pub not_sound :
-            (r : Refusal) → judged_frames v.label n number maintenance s ≡ Err r → Outcome settings s number maintenance out at (Err r) out
+            (r : Refusal) {answer : Result (Unit {0}) Refusal} → judged_frames v.label n number maintenance s ≡ Err r → answer ≡ Err r → Outcome settings s number maintenance out at answer out
         unfolding judged
-        not_sound r e = owed (Err r) (rw (valid, whole, room) e) refl refl
+        not_sound r e a = owed (Err r) (rw (valid, whole, room) e) a refl
 
         pub made :
             (i : Interval) {after : List ℕ} →

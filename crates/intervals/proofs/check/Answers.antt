@@ -1,8 +1,8 @@
 -- `intervals::check` meets its contract. The loop's invariant: the answer is that of the records from k on, with the number that is due.
 use mathlib.Core.Path.{ap, sym, ◌∙◌}
 use native.Mathlib.Omega.{arith}
-use Rattle.std.proofs.lemmas.Result.{err_from_is_err_and}
-use Rattle.numbers.proofs.Refused.{found, missing}
+use Rattle.std.specs.Prelude.{Err}
+use Rattle.numbers.proofs.Refused.{found, refused}
 use Rattle.intervals.specs.Sequence.{checked}
 use Rattle.intervals.proofs.Sequences.{reads_all, check_done, check_invalid, check_disordered, check_next}
 use Rattle.intervals.proofs.check.Goals as goal
@@ -12,9 +12,8 @@ loop-k-init c = ap (checked c.args.first 0) (reads_all c.args.s.now)
 
 pub returns-in_err-v : goal.returns-in_err-v
 returns-in_err-v c = let s = c.args.s.now in let l = c.loop-k in
-    let gone = missing c.read_at.result _ c.ok_or.result _ c.ok_or.ensures.value c.in_err-v.was in
-    let out = err_from_is_err_and c.from_residual.result c.from_residual.ensures.1 in
-    rw (out.1, out.2, gone.1, c.at.ensures) (sym (l.invariant ∙ check_invalid _ l.k l.next s (omega arith) (sym c.read_at.ensures ∙ gone.0)))
+    let out = refused (λ r. r) c.read_at.result _ c.ok_or.result _ c.from_residual.result c.ok_or.ensures.value c.in_err-v.was c.from_residual.ensures in
+    out.1 ∙ ap Err c.at.ensures ∙ sym (l.invariant ∙ check_invalid _ l.k l.next s (omega arith) (sym c.read_at.ensures ∙ out.0))
 
 pub returns-then-number-next : goal.returns-then-number-next
 returns-then-number-next c = let s = c.args.s.now in let l = c.loop-k in
