@@ -6,6 +6,28 @@ ghost use Rattle.std.specs.Prelude.{◌≡◌, ◌-◌, ◌+◌, ◌*◌, ◌/�
 ghost use Rattle.rule.specs.Evaluator.{stepped, reachable};
 ghost use Rattle.rule.specs.Marks.{high_loss, high_composite, weighed, indicator, nothing_weighed};
 
+// A value of each of the two tracks.
+#[derive(Clone, Copy)]
+pub struct Both<T> {
+    pub loss: T,
+    pub composite: T,
+}
+
+impl<T> Both<T> {
+    // What `f` makes of the two values of each track.
+    pub fn zip_with<U, V, F: Fn(T, U) -> V>(self, other: Both<U>, f: F) -> Both<V>
+        requires loss { F.pre f self.loss other.loss }
+        requires composite { F.pre f self.composite other.composite }
+        ensures loss { F.post f self.loss other.loss result.loss }
+        ensures composite { F.post f self.composite other.composite result.composite }
+    {
+        Both {
+            loss: f(self.loss, other.loss),
+            composite: f(self.composite, other.composite),
+        }
+    }
+}
+
 // What a running evaluator keeps of one track: the last label that it settled, and how many marks behind it speak against it.
 #[derive(Clone, Copy)]
 pub struct Track {
@@ -20,6 +42,7 @@ pub struct Turned {
     pub count: u64,
 }
 
+// A mark of a track, n of which in a row turn its label.
 pub fn advance(n: u64, t: Track, mark: bool) -> Turned
     requires { t.pending < n }
     ensures { result ≡ stepped n t mark }
@@ -88,12 +111,6 @@ fn times(a: u32, b: u32) -> u64
     (a as u64) * (b as u64)
 }
 
-fn monus(a: u32, b: u32) -> u32
-    ensures { result ≡ a - b }
-{
-    if b <= a { a - b } else { 0 }
-}
-
 // A count that has the weight, else 0.
 fn share(count: u32, weight: u8) -> u32
     ensures { result ≡ count * (weight % 2) }
@@ -111,7 +128,7 @@ fn weigh(w: u8, loss: u32, delay: u32, variation: u32) -> u64
 fn none_weighed(w: u8, x: Counts) -> bool
     ensures { result ≡ nothing_weighed w x }
 {
-    let delivered = monus(x.sent, x.lost);
+    let delivered = x.sent.saturating_sub(x.lost);
     (w % 2 == 0) & (delivered == 0) | (w % 2 == 0) & (w / 2 % 2 == 0) & (x.pairs == 0)
 }
 
@@ -124,7 +141,7 @@ fn composite(w: u8, x: Counts) -> Fraction
     if none_weighed(w, x) {
         return Fraction { top: 1, bottom: 1 };
     }
-    let delivered = monus(x.sent, x.lost);
+    let delivered = x.sent.saturating_sub(x.lost);
     Fraction {
         top: weigh(w, x.lost, x.late, x.jumpy),
         bottom: weigh(w, x.sent, delivered, x.pairs),

@@ -21,7 +21,7 @@ returns c = (
     c.if-none_weighed.false,
     c.weigh.ensures.0,
     c.weigh-2.ensures.0,
-    c.monus-delivered.ensures,
+    c.saturating_sub-delivered.ensures,
   ),
   c.weigh.ensures.1,
   c.weigh-2.ensures.1,
