@@ -35,7 +35,8 @@ pub struct Track {
     pub pending: u64,
 }
 
-// What a mark does to it: the track after it, and how many labels it settled, all as the mark itself says.
+// What a mark does to it: the track after it, and how many labels it settled, all as the mark itself says. The count is no Option: none settled are 0
+// settled, and as many labels are written or counted as it says.
 #[derive(Clone, Copy)]
 pub struct Turned {
     pub track: Track,
@@ -43,6 +44,7 @@ pub struct Turned {
 }
 
 // A mark of a track, n of which in a row turn its label.
+#[tactic(auto, unfolding(crate::specs::Evaluator::settles, crate::specs::Evaluator::gain, crate::specs::Evaluator::turn))]
 pub fn advance(n: u64, t: Track, mark: bool) -> Turned
     requires { t.pending < n }
     ensures { result ≡ stepped n t mark }
@@ -67,6 +69,7 @@ pub fn advance(n: u64, t: Track, mark: bool) -> Turned
 }
 
 // Can a track be left so by some marks of the number fed? For any numbers at all.
+#[tactic(auto, unfolding(crate::specs::Evaluator::reachable))]
 pub fn can_hold(n: u64, fed: u64, t: Track) -> bool
     ensures { result ≡ reachable n fed t }
 {
@@ -93,22 +96,19 @@ pub struct Counts {
     pub jumpy: u32,
 }
 
+// A ratio as its two parts: ratios are compared by their cross products, with no quotient.
 #[derive(Clone, Copy)]
 pub struct Fraction {
     pub top: u64,
     pub bottom: u64,
 }
 
+// Whether the loss is above num/den.
+#[tactic(auto, unfolding(crate::specs::Marks::high_loss))]
 pub fn high_loss(num: u32, den: u32, x: Counts) -> bool
     ensures { result ≡ high_loss num den x }
 {
-    times(num, x.sent) < times(x.lost, den)
-}
-
-fn times(a: u32, b: u32) -> u64
-    ensures { result ≡ a * b }
-{
-    (a as u64) * (b as u64)
+    (num as u64) * (x.sent as u64) < (x.lost as u64) * (den as u64)
 }
 
 // A count that has the weight, else 0.
@@ -119,12 +119,15 @@ fn share(count: u32, weight: u8) -> u32
 }
 
 // Three counts under the weights.
+#[tactic(auto, unfolding(crate::specs::Marks::weighed))]
 fn weigh(w: u8, loss: u32, delay: u32, variation: u32) -> u64
     ensures { (result ≡ weighed w loss delay variation) × (result < 13_000_000_000) }
 {
     (share(loss, w) as u64) + (share(delay, w / 2) as u64) + (share(variation, w / 4) as u64)
 }
 
+// Whether the weights leave nothing to divide by.
+#[tactic(auto, unfolding(crate::specs::Marks::nothing_weighed))]
 fn none_weighed(w: u8, x: Counts) -> bool
     ensures { result ≡ nothing_weighed w x }
 {
@@ -132,6 +135,8 @@ fn none_weighed(w: u8, x: Counts) -> bool
     (w % 2 == 0) & (delivered == 0) | (w % 2 == 0) & (w / 2 % 2 == 0) & (x.pairs == 0)
 }
 
+// The composite indicator D.
+#[tactic(auto, unfolding(crate::specs::Marks::indicator))]
 fn composite(w: u8, x: Counts) -> Fraction
     ensures { (result ≡ indicator w x) × (result.top < 13_000_000_000) × (result.bottom < 13_000_000_000) }
 {
@@ -148,6 +153,8 @@ fn composite(w: u8, x: Counts) -> Fraction
     }
 }
 
+// Whether D is above num/den.
+#[tactic(auto, unfolding(crate::specs::Marks::high_composite, crate::specs::Marks::above))]
 pub fn high_composite(w: u8, num: u32, den: u32, x: Counts) -> bool
     requires { (num ≤ 1_000_000_000) × (den ≤ 1_000_000_000) }
     ensures { result ≡ high_composite w num den x }
