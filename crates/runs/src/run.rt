@@ -31,6 +31,7 @@ impl Edges {
     };
 }
 
+// A run: its mark, how many intervals it has, and what those of them add up to that count and where they stand.
 #[derive(Clone, Copy)]
 pub struct Run {
     pub mark: bool,
