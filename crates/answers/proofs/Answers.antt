@@ -27,7 +27,6 @@ use Rattle.percentile.specs.Percentile.{percentile, range, place_above}
 use Rattle.delays.specs.Outcome as list
 use Rattle.labels.specs.Stretch as labels
 use Rattle.evaluator.specs.Evaluators.{held_of, evaluator_meets, start_from, start_of, answer_of, fed_with, step_with, step_of}
-use Rattle.evaluator.specs.declared.Answer.{Answer as Answers, Answer}
 use Rattle.evaluator.specs.declared.Evaluator.{Evaluator}
 use Rattle.summaries.specs.Stored.{summary_of}
 use Rattle.summaries.specs.declared.Summary.{Summary}
@@ -48,6 +47,8 @@ use Rattle.intervals.specs.declared.Interval.{Interval}
 use Rattle.numbers.specs.declared.refusal.Refusal.{Refusal}
 use Rattle.delays.specs.declared.Figures.{Figures}
 use Rattle.tallies.specs.declared.Period.{Period}
+use Rattle.rule.specs.declared.Both.{Both}
+use Rattle.evaluator.specs.declared.Settled.{Settled}
 
 -- records in a sequence: the first fault is the first line that holds
 
@@ -190,7 +191,7 @@ start_answers_number settings e = ap start_told e ∙ start_by_settings (setting
 
 module _ (e : Evaluator) where
   step_by_number :
-      (v : Evaluator) (a : Answers) (next : Bool) → step_told (cond next (Ok (v, a)) (Err (refusal Fault.Order 0))) ≡ first_line (line (not next) 7 0 ∷ [])
+      (v : Evaluator) (a : Both Settled) (next : Bool) → step_told (cond next (Ok (v, a)) (Err (refusal Fault.Order 0))) ≡ first_line (line (not next) 7 0 ∷ [])
   unfolding first_line
   step_by_number v a true = refl
   step_by_number v a false = refl
@@ -209,7 +210,7 @@ module _ (e : Evaluator) where
   step_by_state true false x = refl
   step_by_state true true x = step_by_record x
 
-  pub step_answers_number : (s : List ℕ) {r : (Result (Evaluator × Answer) Refusal)} → r ≡ step_of e s → step_told r ≡ first_line (step_refusals e s)
+  pub step_answers_number : (s : List ℕ) {r : (Result (Evaluator × (Both Settled)) Refusal)} → r ≡ step_of e s → step_told r ≡ first_line (step_refusals e s)
   unfolding step_refusals step_of
   step_answers_number s h = ap step_told h ∙ step_by_state (eqb (length s) 48) (evaluator_meets e) (interval_of s)
 

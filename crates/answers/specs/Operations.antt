@@ -17,11 +17,12 @@ use Rattle.frames.specs.declared.Frame.{Frame}
 use Rattle.intervals.specs.declared.Interval.{Interval}
 use Rattle.numbers.specs.declared.refusal.Refusal.{Refusal}
 use Rattle.delays.specs.declared.Figures.{Figures}
-use Rattle.evaluator.specs.declared.Answer.{Answer}
 use Rattle.periods.specs.declared.Stretch.{Stretch}
 use Rattle.tallies.specs.declared.Period.{Period}
 use Rattle.settings.specs.declared.LabelSettings.{LabelSettings}
 use Rattle.verdicts.specs.declared.Verdicts.{Verdicts}
+use Rattle.rule.specs.declared.Both.{Both}
+use Rattle.evaluator.specs.declared.Settled.{Settled}
 
 -- settings
 
@@ -171,7 +172,7 @@ step_refusals e s =
     ∷ line (not_next e.fed (interval_of s)) 7 0
     ∷ []
 
-abbrev pub step_told : Result (Evaluator × Answer) Refusal → Told
+abbrev pub step_told : Result (Evaluator × (Both Settled)) Refusal → Told
 step_told (Ok (e, a)) = answered
 step_told (Err r) = told_of r
 

@@ -28,11 +28,11 @@ use Rattle.rule.proofs.Labelling.{Settles, steps_settle, run_step}
 use Rattle.rule.proofs.Reaching.{possible_reachable, reachable_possible}
 use Rattle.labels.specs.Marked.{loss_mark, composite_mark}
 use Rattle.evaluator.specs.Evaluators.{label_of, loss_of, composite_of, track_of, held_of, word_of, held, evaluator_rules, evaluator_meets, which, settled_by, answer_of, fed_with, start_of, step_with, step_of}
-use Rattle.evaluator.specs.declared.Answer.{Answer}
 use Rattle.evaluator.specs.declared.Evaluator.{Evaluator}
 use Rattle.evaluator.specs.declared.Settled.{Settled}
 use Rattle.evaluator.proofs.Words.{EvaluatorValid, evaluator_rules_lem}
 use Rattle.numbers.specs.declared.refusal.Refusal.{Refusal}
+use Rattle.rule.specs.declared.Both.{Both}
 
 -- the tracks that the intervals fed leave
 abbrev pub loss_after : LabelSettings → List Interval → Track
@@ -95,8 +95,8 @@ answers : (n : ℕ) (ms : List Bool) (m : Bool) → 1 ≤ n → Answers n ms m (
 answers n ms m p = record { settles = steps_settle n ms p m; which_label = refl }
 
 -- a step feeds the next interval, and answers on both tracks what the definition settles
-pub record Steps (l : LabelSettings) (vs : List Interval) (v : Interval) (s : Result (Evaluator × Answer) Refusal) : Type 0 where
-  pub answer : Answer
+pub record Steps (l : LabelSettings) (vs : List Interval) (v : Interval) (s : Result (Evaluator × (Both Settled)) Refusal) : Type 0 where
+  pub answer : Both Settled
   pub is_fed : s ≡ Ok (after l (vs ++ (v ∷ [])), answer)
   pub on_loss : Answers l.n (map (loss_mark l) vs) (loss_mark l v) answer.loss
   pub on_composite : Answers l.n (map (composite_mark l) vs) (composite_mark l v) answer.composite
@@ -166,7 +166,7 @@ follows n fed t m some h =
     }
 
 -- what a step that is not refused found and leaves
-pub record Accepted (e : Evaluator) (r : List ℕ) (next : Evaluator) (answer : Answer) : Type 0 where
+pub record Accepted (e : Evaluator) (r : List ℕ) (next : Evaluator) (answer : Both Settled) : Type 0 where
   pub interval : Interval
   pub is_read : interval_of r ≡ Some interval
   pub is_next : interval.number ≡ e.fed
@@ -178,7 +178,7 @@ pub record Accepted (e : Evaluator) (r : List ℕ) (next : Evaluator) (answer : 
 
 -- every test of a step that is not refused was passed
 
-module _ (e next : Evaluator) (answer : Answer) where
+module _ (e next : Evaluator) (answer : Both Settled) where
   passed_number :
       (v : Interval) (is_next : Bool) →
       cond is_next (Ok (fed_with (held_of e) e.fed v, answer_of (held_of e) v)) (Err (refusal Fault.Order 0)) ≡ Ok (next, answer) →
@@ -217,7 +217,7 @@ accepted e r v valid read number =
     }
 
 -- a step that is not refused answers by the definition, on every evaluator
-pub steps_accepted : (e : Evaluator) (r : List ℕ) (next : Evaluator) (answer : Answer) → step_of e r ≡ Ok (next, answer) → Accepted e r next answer
+pub steps_accepted : (e : Evaluator) (r : List ℕ) (next : Evaluator) (answer : Both Settled) → step_of e r ≡ Ok (next, answer) → Accepted e r next answer
 unfolding step_of
 steps_accepted e r next answer h =
     let t = passed e next answer (eqb (length r) 48) (evaluator_meets e) (interval_of r) h in

@@ -15,7 +15,8 @@ use Rattle.evaluator.specs.Evaluators.{held_of, fed_with, answer_of, evaluator_m
 use Rattle.evaluator.specs.declared.Evaluator.{Evaluator}
 use Rattle.settings.specs.declared.Settings.{Settings}
 use Rattle.intervals.specs.declared.Interval.{Interval}
-use Rattle.evaluator.specs.declared.Answer.{Answer}
+use Rattle.rule.specs.declared.Both.{Both}
+use Rattle.evaluator.specs.declared.Settled.{Settled}
 
 pub start_place : (s : List ℕ) (x : Refusal) → start_of s ≡ Err x → x.place ≡ 0
 unfolding start_of
@@ -32,7 +33,7 @@ step_place e r x h = lengths (eqb (length r) 48) h
     no_place : (f : Fault) → Err (refusal f 0) ≡ Err x → x.place ≡ 0
     no_place f h = cc
 
-    numbers : (z : Bool) (s : Result (Evaluator × Answer) Refusal) → ((s ≡ Err x) → x.place ≡ 0) → cond z s (Err (refusal Fault.Order 0)) ≡ Err x → x.place ≡ 0
+    numbers : (z : Bool) (s : Result (Evaluator × (Both Settled)) Refusal) → ((s ≡ Err x) → x.place ≡ 0) → cond z s (Err (refusal Fault.Order 0)) ≡ Err x → x.place ≡ 0
     numbers true s k h = k h
     numbers false s k h = no_place Fault.Order h
 

@@ -11,13 +11,13 @@ use Rattle.intervals.specs.declared.Interval.{Interval}
 use Rattle.rule.specs.Evaluator.{fresh, gain, turn, reachable}
 use Rattle.rule.specs.declared.Track.{Track}
 use Rattle.labels.specs.Marked.{loss_mark, composite_mark}
-use Rattle.evaluator.specs.declared.Answer.{Answer}
 use Rattle.evaluator.specs.declared.Evaluator.{Evaluator}
 use Rattle.evaluator.specs.declared.Held.{Held}
 use Rattle.evaluator.specs.declared.Moved.{Moved}
 use Rattle.evaluator.specs.declared.Settled.{Settled}
 use Rattle.settings.specs.declared.Settings.{Settings}
 use Rattle.numbers.specs.declared.refusal.Refusal.{Refusal}
+use Rattle.rule.specs.declared.Both.{Both}
 
 -- its words: the label settings, and a label word, 1 for available and 0 for not, with the number pending, for each track
 abbrev pub label_of : Evaluator → LabelSettings
@@ -87,7 +87,7 @@ which count m = cond (eqb count 0) 2 (word_of m)
 abbrev pub settled_by : ℕ → Track → Bool → Settled
 settled_by n t m = record { count = gain n t m; label = which (gain n t m) m }
 
-unfoldable pub answer_of : Held → Interval → Answer
+unfoldable pub answer_of : Held → Interval → Both Settled
 answer_of h v =
     record {
       loss = settled_by h.label.n h.loss (loss_mark h.label v);
@@ -102,22 +102,22 @@ fed_with h fed v =
     (turn h.label.n h.composite (composite_mark h.label v))
 
 -- a step: the length, the evaluator, the record's fields, its number
-abbrev pub step_with : Evaluator → Option Interval → Result (Evaluator × Answer) Refusal
+abbrev pub step_with : Evaluator → Option Interval → Result (Evaluator × (Both Settled)) Refusal
 step_with e (Some v) =
     cond (eqb v.number e.fed) (Ok (fed_with (held_of e) e.fed v, answer_of (held_of e) v)) (Err (refusal Fault.Order 0))
 step_with e None = Err (refusal Fault.Field 0)
 
-unfoldable pub step_of : Evaluator → List ℕ → Result (Evaluator × Answer) Refusal
+unfoldable pub step_of : Evaluator → List ℕ → Result (Evaluator × (Both Settled)) Refusal
 step_of e r =
     cond (eqb (length r) 48)
     (cond (evaluator_meets e) (step_with e (interval_of r)) (Err (refusal Fault.Field 0)))
     (Err (refusal Fault.Length 0))
 
 -- the same with the evaluator left behind: a refusal leaves it as it was
-abbrev pub moved_to : Evaluator → Result Answer Refusal → Moved
+abbrev pub moved_to : Evaluator → Result (Both Settled) Refusal → Moved
 moved_to e a = record { evaluator = e; told = a }
 
-abbrev pub moved_by : Evaluator → Result (Evaluator × Answer) Refusal → Moved
+abbrev pub moved_by : Evaluator → Result (Evaluator × (Both Settled)) Refusal → Moved
 moved_by e (Ok (next, a)) = moved_to next (Ok a)
 moved_by e (Err x) = moved_to e (Err x)
 

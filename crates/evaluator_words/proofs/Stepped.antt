@@ -6,7 +6,6 @@ use lib.ListN.{length}
 use borrow.Author.Tests.{le-leb, lt-leb, eq-eqb, ne_eqb}
 use Rattle.std.specs.Prelude.{Result, Ok, Err}
 use Rattle.evaluator.specs.Evaluators.{start_of, step_of}
-use Rattle.evaluator.specs.declared.Answer.{Answer}
 use Rattle.evaluator.specs.declared.Evaluator.{Evaluator}
 use Rattle.numbers.specs.Refusals.{refusal}
 use Rattle.numbers.specs.declared.refusal.Fault.{Fault}
@@ -15,6 +14,8 @@ use Rattle.evaluator_words.specs.Running.{setting_words, state_words, evaluator_
 use Rattle.words.specs.Written.{over, written}
 use Rattle.words.specs.Word.{word_of}
 use Rattle.words.proofs.Writing.{written_over}
+use Rattle.rule.specs.declared.Both.{Both}
+use Rattle.evaluator.specs.declared.Settled.{Settled}
 
 -- the settings' words and then the others are the evaluator's
 pub evaluator_written : (e : Evaluator) (l : List ℕ) → 13 ≤ length l → written (written l 0 (setting_words e)) 8 (state_words e) ≡ over (evaluator_words e) l
@@ -37,7 +38,7 @@ module _ (s words : List ℕ) where
 
 -- each way out of `mip_step`
 module _ (words r settled : List ℕ) where
-  told : (o : Result (Evaluator × Answer) Refusal) (n : ℕ) (after answer : List ℕ) → step_told words r (length settled) ≡ o → n ≡ step_word o → after ≡ evaluator_left o words → answer ≡ settled_left o settled → StepLeft words r settled n after answer
+  told : (o : Result (Evaluator × (Both Settled)) Refusal) (n : ℕ) (after answer : List ℕ) → step_told words r (length settled) ≡ o → n ≡ step_word o → after ≡ evaluator_left o words → answer ≡ settled_left o settled → StepLeft words r settled n after answer
   told o n after answer e w a b =
       record {
         word = w ∙ sym (ap step_word e);
@@ -71,7 +72,7 @@ module _ (words r settled : List ℕ) where
         step_refused v known x n e w = told (Err x) n words settled (reached v known ∙ e) w refl refl
 
         pub stepped :
-            (v : Evaluator) → v ≡ evaluator_in words → (next : Evaluator) (a : Answer) (after answer : List ℕ) → step_of v r ≡ Ok (next, a) →
+            (v : Evaluator) → v ≡ evaluator_in words → (next : Evaluator) (a : Both Settled) (after answer : List ℕ) → step_of v r ≡ Ok (next, a) →
             after ≡ over (evaluator_words next) words → answer ≡ over (settled_words a) settled → StepLeft words r settled 0 after answer
         stepped v known next a after answer e p q = told (Ok (next, a)) 0 after answer (reached v known ∙ e) refl p q
 

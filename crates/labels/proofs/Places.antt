@@ -23,7 +23,7 @@ use Rattle.labels.specs.Stretch.{when_checked, when_counted, when_read, labels_o
 use Rattle.settings.specs.declared.Settings.{Settings}
 use Rattle.intervals.specs.declared.Interval.{Interval}
 
-refused_place : (f : Fault) (k : ℕ) (x : Refusal) → Err (refusal f k) ≡ Err x → x.place ≡ k
+refused_place : (f : Fault) (k : ℕ) (x : Refusal) → ◌≡◌ {A = Result (Unit {0}) Refusal} (Err (refusal f k)) (Err x) → x.place ≡ k
 refused_place f k x e = cc
 
 -- each good record brings the next number nearer to the last
@@ -31,7 +31,7 @@ pub checked_place : (m : ℕ) (s : List ℕ) (j next place : ℕ) (x : Refusal) 
 unfolding checked read_each
 checked_place zero s j next place x h e = absurd (never e)
   where
-    never : (Ok tt) ≡ Err x → ⊥
+    never : ◌≡◌ {A = Result (Unit {0}) Refusal} (Ok tt) (Err x) → ⊥
     never e = let z : ◌≡◌ {A = ℕ} 0 1 = cc in omega arith
 checked_place (suc m) s j next place x h e = by (interval_of (record_at s 48 j)) refl e (checked_place m s (suc j) (suc next) (suc place) x)
   where
@@ -50,11 +50,11 @@ pub labels_place : (s r out : List ℕ) (at : ℕ) (x : Refusal) → (labels_of 
 unfolding labels_of intervals_in
 labels_place s r out at x e = read (settings_of s) e
   where
-    no_place : (f : Fault) → Err (refusal f 0) ≡ Err x → x.place ≤ intervals
+    no_place : (f : Fault) → ◌≡◌ {A = Result (Unit {0}) Refusal} (Err (refusal f 0)) (Err x) → x.place ≤ intervals
     no_place f e = let none : x.place ≡ 0 = cc in omega arith
 
     checks : (l : LabelSettings) (c : Result (Unit {0}) Refusal) → checked 0 0 (intervals_in r) ≡ c → (when_checked l r out at c).answer ≡ Err x → x.place ≤ intervals
-    checks l (Ok tt) f e = absurd (let z : ◌≡◌ {A = ℕ} 0 1 = cc in (let n : ⊥ = omega arith in n))
+    checks l (Ok _) f e = absurd (let z : ◌≡◌ {A = ℕ} 0 1 = cc in (let n : ⊥ = omega arith in n))
     checks l (Err y) f e =
         let same : y ≡ x = cc in
         omega (arith, checked_place (length r / 48) r 0 0 0 x (omega arith) (f ∙ ap Err same))

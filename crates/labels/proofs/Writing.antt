@@ -22,10 +22,10 @@ use Rattle.intervals.proofs.IntervalRecord.{interval_read}
 use Rattle.rule.proofs.Labelling.{settled_and_pending, pending_short}
 use Rattle.labels.specs.Marked.{counts_of, counts_in, loss_mark, composite_mark}
 use Rattle.labels.specs.Stretch.{intervals_of, label_bytes, label_byte, settled_in, left_in, both_turned, both_settled, both_left, Settling, Leaving, Writing}
-use Rattle.labels.specs.declared.stretch.Tracks.{Tracks}
 use Rattle.labels.proofs.Lanes.{Lane, lane_start, lane_step, lane_other, lane_full, full_other, lanes_bytes}
 use Rattle.labels.proofs.Soundness.{sound_length, sound_at, sound_kth}
 use Rattle.labels.proofs.Strides.{length_strided}
+use Rattle.rule.specs.declared.Both.{Both}
 
 -- the marks of the records by one rule
 abbrev pub marks_in : (Interval → Bool) → List ℕ → List Bool
@@ -37,7 +37,7 @@ unfolding counts_in interval_in
 counts_read s v e = ap counts_of (interval_read s v e).1
 
 -- before record k
-pub record Lanes (l : LabelSettings) (r : List ℕ) (k : ℕ) (t : Tracks) (part : List ℕ) : Type 0 where
+pub record Lanes (l : LabelSettings) (r : List ℕ) (k : ℕ) (t : Both Track) (part : List ℕ) : Type 0 where
   pub most : k ≤ length r / 48
   pub long : length part ≡ 2 * (length r / 48)
   pub on_loss : Lane l.n (take k (marks_in (loss_mark l) r)) 0 t.loss part
@@ -69,7 +69,7 @@ lane_pending : (n : ℕ) (ms : List Bool) (lane : ℕ) (t : Track) (part : List 
 lane_pending n ms lane t part k p e h = rw h.stands (pending_short n ms p, omega (arith, settled_and_pending n ms))
 
 -- what a turn of the loop, and its end, ask for
-module _ (l : LabelSettings) (r : List ℕ) (k : ℕ) (t : Tracks) (p part : List ℕ) (w : Writing l r p) (s : Lanes l r k t part) where
+module _ (l : LabelSettings) (r : List ℕ) (k : ℕ) (t : Both Track) (p part : List ℕ) (w : Writing l r p) (s : Lanes l r k t part) where
   some : 1 ≤ l.n
   some = (label_valid l w.valid).n_facts.0
 

@@ -14,9 +14,9 @@ use Rattle.rule.specs.Labels.{Label, settled, undecided}
 use Rattle.rule.specs.declared.Counts.{Counts}
 use Rattle.rule.specs.declared.Track.{Track}
 use Rattle.labels.specs.Marked.{loss_mark, composite_mark, loss_high, composite_high}
-use Rattle.labels.specs.declared.stretch.Tracks.{Tracks}
 use Rattle.settings.specs.declared.Settings.{Settings}
 use Rattle.numbers.specs.declared.refusal.Refusal.{Refusal}
+use Rattle.rule.specs.declared.Both.{Both}
 
 -- 0 unavailable, 1 available, 2 undecided
 abbrev pub label_byte : Label → ℕ
@@ -80,20 +80,20 @@ abbrev pub settled_in : List ℕ → ℕ → ℕ → ℕ → Track → Bool → 
 settled_in l k lane n t m = strided l (2 * (k + 1 - gain n t m) + lane) (gain n t m) (label_byte (settled m))
 
 -- both lanes: the marks of an interval, and what is left pending at the end
-abbrev pub both_turned : LabelSettings → Tracks → Counts → Tracks
+abbrev pub both_turned : LabelSettings → Both Track → Counts → Both Track
 both_turned l t x = record { loss = turn l.n t.loss (loss_high l x); composite = turn l.n t.composite (composite_high l x) }
 
-abbrev pub both_settled : List ℕ → ℕ → LabelSettings → Tracks → Counts → List ℕ
+abbrev pub both_settled : List ℕ → ℕ → LabelSettings → Both Track → Counts → List ℕ
 both_settled p k l t x = settled_in (settled_in p k 0 l.n t.loss (loss_high l x)) k 1 l.n t.composite (composite_high l x)
 
 abbrev pub left_in : List ℕ → ℕ → ℕ → Track → List ℕ
 left_in p k lane t = strided p (2 * (k - t.pending) + lane) t.pending 2
 
-abbrev pub both_left : List ℕ → ℕ → Tracks → List ℕ
+abbrev pub both_left : List ℕ → ℕ → Both Track → List ℕ
 both_left p k t = left_in (left_in p k 0 t.loss) k 1 t.composite
 
 -- what writing asks for: valid settings, tracks that can stand after k intervals, and room
-pub record Settling (l : LabelSettings) (k : ℕ) (t : Tracks) (p : List ℕ) : Type 0 where
+pub record Settling (l : LabelSettings) (k : ℕ) (t : Both Track) (p : List ℕ) : Type 0 where
   pub valid : label_meets l ≡ true
   pub loss_short : t.loss.pending < l.n
   pub composite_short : t.composite.pending < l.n
@@ -101,7 +101,7 @@ pub record Settling (l : LabelSettings) (k : ℕ) (t : Tracks) (p : List ℕ) : 
   pub composite_known : t.composite.pending ≤ k
   pub room : 2 * k + 1 < length p
 
-pub record Leaving (k : ℕ) (t : Tracks) (p : List ℕ) : Type 0 where
+pub record Leaving (k : ℕ) (t : Both Track) (p : List ℕ) : Type 0 where
   pub loss_known : t.loss.pending ≤ k
   pub composite_known : t.composite.pending ≤ k
   pub room : length p ≡ 2 * k
