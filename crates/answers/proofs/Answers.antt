@@ -210,7 +210,7 @@ module _ (e : Evaluator) where
   step_by_state true false x = refl
   step_by_state true true x = step_by_record x
 
-  pub step_answers_number : (s : List ℕ) {r : (Result (Evaluator × (Both Settled)) Refusal)} → r ≡ step_of e s → step_told r ≡ first_line (step_refusals e s)
+  pub step_answers_number : (s : List ℕ) {r : (Result (Evaluator × Both Settled) Refusal)} → r ≡ step_of e s → step_told r ≡ first_line (step_refusals e s)
   unfolding step_refusals step_of
   step_answers_number s h = ap step_told h ∙ step_by_state (eqb (length s) 48) (evaluator_meets e) (interval_of s)
 

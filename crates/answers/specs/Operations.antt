@@ -172,7 +172,7 @@ step_refusals e s =
     ∷ line (not_next e.fed (interval_of s)) 7 0
     ∷ []
 
-abbrev pub step_told : Result (Evaluator × (Both Settled)) Refusal → Told
+abbrev pub step_told : Result (Evaluator × Both Settled) Refusal → Told
 step_told (Ok (e, a)) = answered
 step_told (Err r) = told_of r
 

@@ -95,7 +95,7 @@ answers : (n : ℕ) (ms : List Bool) (m : Bool) → 1 ≤ n → Answers n ms m (
 answers n ms m p = record { settles = steps_settle n ms p m; which_label = refl }
 
 -- a step feeds the next interval, and answers on both tracks what the definition settles
-pub record Steps (l : LabelSettings) (vs : List Interval) (v : Interval) (s : Result (Evaluator × (Both Settled)) Refusal) : Type 0 where
+pub record Steps (l : LabelSettings) (vs : List Interval) (v : Interval) (s : Result (Evaluator × Both Settled) Refusal) : Type 0 where
   pub answer : Both Settled
   pub is_fed : s ≡ Ok (after l (vs ++ (v ∷ [])), answer)
   pub on_loss : Answers l.n (map (loss_mark l) vs) (loss_mark l v) answer.loss
@@ -181,9 +181,11 @@ pub record Accepted (e : Evaluator) (r : List ℕ) (next : Evaluator) (answer : 
 module _ (e next : Evaluator) (answer : Both Settled) where
   passed_number :
       (v : Interval) (is_next : Bool) →
-      cond is_next (Ok (fed_with (held_of e) e.fed v, answer_of (held_of e) v)) (Err (refusal Fault.Order 0)) ≡ Ok (next, answer) →
+      cond {A = Result (Evaluator × Both Settled) Refusal} is_next (Ok (fed_with (held_of e) e.fed v, answer_of (held_of e) v)) (Err (refusal Fault.Order 0)) ≡ Ok (next, answer) →
       (is_next ≡ true) × (fed_with (held_of e) e.fed v ≡ next) × (answer_of (held_of e) v ≡ answer)
-  passed_number v true h = (refl, (cc), (cc))
+  passed_number v true h =
+      let same : ◌≡◌ {A = Evaluator × Both Settled} (fed_with (held_of e) e.fed v, answer_of (held_of e) v) (next, answer) = cc in
+      (refl, ap (λ (p : Evaluator × Both Settled). p.0) same, ap (λ (p : Evaluator × Both Settled). p.1) same)
   passed_number v false h = let z : ◌≡◌ {A = ℕ} 0 1 = cc in absurd (omega arith)
 
   passed :

@@ -30,10 +30,10 @@ pub step_place : (e : Evaluator) (r : List ℕ) (x : Refusal) → step_of e r �
 unfolding step_of
 step_place e r x h = lengths (eqb (length r) 48) h
   where
-    no_place : (f : Fault) → Err (refusal f 0) ≡ Err x → x.place ≡ 0
+    no_place : (f : Fault) → ◌≡◌ {A = Result (Evaluator × Both Settled) Refusal} (Err (refusal f 0)) (Err x) → x.place ≡ 0
     no_place f h = cc
 
-    numbers : (z : Bool) (s : Result (Evaluator × (Both Settled)) Refusal) → ((s ≡ Err x) → x.place ≡ 0) → cond z s (Err (refusal Fault.Order 0)) ≡ Err x → x.place ≡ 0
+    numbers : (z : Bool) (s : Result (Evaluator × Both Settled) Refusal) → ((s ≡ Err x) → x.place ≡ 0) → cond z s (Err (refusal Fault.Order 0)) ≡ Err x → x.place ≡ 0
     numbers true s k h = k h
     numbers false s k h = no_place Fault.Order h
 

@@ -13,7 +13,6 @@ use Rattle.rule.specs.declared.Track.{Track}
 use Rattle.labels.specs.Marked.{loss_mark, composite_mark}
 use Rattle.evaluator.specs.declared.Evaluator.{Evaluator}
 use Rattle.evaluator.specs.declared.Held.{Held}
-use Rattle.evaluator.specs.declared.Moved.{Moved}
 use Rattle.evaluator.specs.declared.Settled.{Settled}
 use Rattle.settings.specs.declared.Settings.{Settings}
 use Rattle.numbers.specs.declared.refusal.Refusal.{Refusal}
@@ -102,22 +101,26 @@ fed_with h fed v =
     (turn h.label.n h.composite (composite_mark h.label v))
 
 -- a step: the length, the evaluator, the record's fields, its number
-abbrev pub step_with : Evaluator → Option Interval → Result (Evaluator × (Both Settled)) Refusal
+abbrev pub step_with : Evaluator → Option Interval → Result (Evaluator × Both Settled) Refusal
 step_with e (Some v) =
     cond (eqb v.number e.fed) (Ok (fed_with (held_of e) e.fed v, answer_of (held_of e) v)) (Err (refusal Fault.Order 0))
 step_with e None = Err (refusal Fault.Field 0)
 
-unfoldable pub step_of : Evaluator → List ℕ → Result (Evaluator × (Both Settled)) Refusal
+unfoldable pub step_of : Evaluator → List ℕ → Result (Evaluator × Both Settled) Refusal
 step_of e r =
     cond (eqb (length r) 48)
     (cond (evaluator_meets e) (step_with e (interval_of r)) (Err (refusal Fault.Field 0)))
     (Err (refusal Fault.Length 0))
 
 -- the same with the evaluator left behind: a refusal leaves it as it was
+pub record Moved : Type 0 where
+  pub evaluator : Evaluator
+  pub told : Result (Both Settled) Refusal
+
 abbrev pub moved_to : Evaluator → Result (Both Settled) Refusal → Moved
 moved_to e a = record { evaluator = e; told = a }
 
-abbrev pub moved_by : Evaluator → Result (Evaluator × (Both Settled)) Refusal → Moved
+abbrev pub moved_by : Evaluator → Result (Evaluator × Both Settled) Refusal → Moved
 moved_by e (Ok (next, a)) = moved_to next (Ok a)
 moved_by e (Err x) = moved_to e (Err x)
 

@@ -38,7 +38,7 @@ module _ (s words : List ℕ) where
 
 -- each way out of `mip_step`
 module _ (words r settled : List ℕ) where
-  told : (o : Result (Evaluator × (Both Settled)) Refusal) (n : ℕ) (after answer : List ℕ) → step_told words r (length settled) ≡ o → n ≡ step_word o → after ≡ evaluator_left o words → answer ≡ settled_left o settled → StepLeft words r settled n after answer
+  told : (o : Result (Evaluator × Both Settled) Refusal) (n : ℕ) (after answer : List ℕ) → step_told words r (length settled) ≡ o → n ≡ step_word o → after ≡ evaluator_left o words → answer ≡ settled_left o settled → StepLeft words r settled n after answer
   told o n after answer e w a b =
       record {
         word = w ∙ sym (ap step_word e);

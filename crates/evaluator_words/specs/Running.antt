@@ -66,21 +66,21 @@ pub record StartLeft (s before : List ℕ) (result : ℕ) (after : List ℕ) : T
   pub words : after ≡ start_words (start_told s (length before)) before
 
 -- `step`, with LENGTH where the record is not 48 bytes or the evaluator is shorter than 13 words, then ROOM for the 4 words of the answer
-unfoldable pub step_told : List ℕ → List ℕ → ℕ → Result (Evaluator × (Both Settled)) Refusal
+unfoldable pub step_told : List ℕ → List ℕ → ℕ → Result (Evaluator × Both Settled) Refusal
 step_told words r room =
     cond (eqb (length r) 48 && leb 13 (length words))
     (cond (leb 4 room) (step_of (evaluator_in words) r) (Err (refusal Fault.Room 0)))
     (Err (refusal Fault.Length 0))
 
-abbrev pub step_word : Result (Evaluator × (Both Settled)) Refusal → ℕ
+abbrev pub step_word : Result (Evaluator × Both Settled) Refusal → ℕ
 step_word (Ok (e, a)) = 0
 step_word (Err r) = word_of r
 
-abbrev pub evaluator_left : Result (Evaluator × (Both Settled)) Refusal → List ℕ → List ℕ
+abbrev pub evaluator_left : Result (Evaluator × Both Settled) Refusal → List ℕ → List ℕ
 evaluator_left (Ok (e, a)) words = over (evaluator_words e) words
 evaluator_left (Err r) words = words
 
-abbrev pub settled_left : Result (Evaluator × (Both Settled)) Refusal → List ℕ → List ℕ
+abbrev pub settled_left : Result (Evaluator × Both Settled) Refusal → List ℕ → List ℕ
 settled_left (Ok (e, a)) words = over (settled_words a) words
 settled_left (Err r) words = words
 
