@@ -20,17 +20,6 @@ pub struct Summary {
     pub composite: Track,
 }
 
-// The two lengths of label settings.
-pub fn lengths(l: LabelSettings) -> Lengths
-    ensures n { result.n ≡ l.n }
-    ensures p { result.p ≡ l.p }
-{
-    Lengths {
-        n: l.n as u32,
-        p: l.p as u32,
-    }
-}
-
 // The values that stand in 1,024 bytes.
 fn summary_in(s: &[u8]) -> Summary
     requires { length s.now ≡ 1024 }
@@ -63,7 +52,10 @@ fn header_meets(s: &[u8], v: Summary) -> bool
 fn tracks_meet(v: Summary) -> bool
     ensures { result ≡ tracks_meet v }
 {
-    let by = lengths(v.label);
+    let by = Lengths {
+        n: v.label.n as u32,
+        p: v.label.p as u32,
+    };
     let len = v.after.saturating_sub(v.first);
     if track_rules::track_meets(by, len, v.loss) {
         if track_rules::track_meets(by, len, v.composite) {
