@@ -2,65 +2,48 @@
 #![tactic(auto)]
 
 ghost use Rattle.std.specs.Prelude.{◌≡◌, length, ◌≤◌};
-ghost use Rattle.evaluator_words.specs.Running.{setting_words, state_words, evaluator_words, settled_words, evaluator_in, StartLeft, StepLeft};
-ghost use Rattle.words.specs.Written.{written, over};
+ghost use Rattle.evaluator_words.specs.Running.{evaluator_words, settled_words, evaluator_in, StartLeft, StepLeft};
 
-use evaluator::{Answer, Evaluator, Started, Stepped};
-use numbers::refusal::{Fault, Refusal};
-use words::word;
+use evaluator::{Answer, Evaluator};
+use numbers::refusal::Fault;
+use words::{word, written};
 
-// The words of an evaluator, and those of what a step settled.
+// How many words an evaluator takes, and what a step settled.
 const EVALUATOR: usize = 13;
 
 const SETTLED: usize = 4;
 
-// The words of the label settings.
-fn put_settings(e: Evaluator, words: &mut [u64])
-    requires { 13 ≤ length words.old }
-    ensures { words.new ≡ written words.old 0 (setting_words e) }
+// The words of an evaluator: the label settings, and what was fed behind them.
+fn words_of(e: Evaluator) -> [u64; 13]
+    ensures { result ≡ evaluator_words e }
 {
-    words[0] = e.length;
-    words[1] = e.n;
-    words[2] = e.p;
-    words[3] = e.weights;
-    words[4] = e.c;
-    words[5] = e.u;
-    words[6] = e.dl;
-    words[7] = e.jt;
+    [
+        e.length,
+        e.n,
+        e.p,
+        e.weights,
+        e.c,
+        e.u,
+        e.dl,
+        e.jt,
+        e.fed,
+        e.loss_label,
+        e.loss_pending,
+        e.composite_label,
+        e.composite_pending,
+    ]
 }
 
-// The words behind them.
-fn put_state(e: Evaluator, words: &mut [u64])
-    requires { 13 ≤ length words.old }
-    ensures { words.new ≡ written words.old 8 (state_words e) }
+// The words of what a step settled.
+fn settled_by(a: Answer) -> [u64; 4]
+    ensures { result ≡ settled_words a }
 {
-    words[8] = e.fed;
-    words[9] = e.loss_label;
-    words[10] = e.loss_pending;
-    words[11] = e.composite_label;
-    words[12] = e.composite_pending;
-}
-
-// Writes the evaluator over the first words.
-fn put(e: Evaluator, words: &mut [u64])
-    requires { 13 ≤ length words.old }
-    ensures { words.new ≡ over (evaluator_words e) words.old }
-{
-    put_settings(e, words);
-    put_state(e, words);
-}
-
-// Writes what a step settled over the first words.
-fn put_settled(a: Answer, words: &mut [u64])
-    requires { 4 ≤ length words.old }
-    ensures { words.new ≡ over (settled_words a) words.old }
-{
-    let loss = a.loss;
-    let composite = a.composite;
-    words[0] = loss.count;
-    words[1] = loss.label;
-    words[2] = composite.count;
-    words[3] = composite.label;
+    [
+        a.loss.count,
+        a.loss.label,
+        a.composite.count,
+        a.composite.label,
+    ]
 }
 
 // The evaluator in the first words.
@@ -90,15 +73,12 @@ pub fn mip_start(settings: &[u8], evaluator: &mut [u64]) -> u64
     ensures { StartLeft settings.now evaluator.old result evaluator.new }
 {
     match evaluator::start(settings) {
-        Started::Refused(r) => word::word(r),
-        Started::Ready(e) => {
+        Err(r) => word::word(r),
+        Ok(e) => {
             if evaluator.len() < EVALUATOR {
-                return word::word(Refusal {
-                    fault: Fault::Room,
-                    place: 0,
-                });
+                return word::word(Fault::Room.at(0));
             }
-            put(e, evaluator);
+            written::put(words_of(e), evaluator);
             0
         }
     }
@@ -109,28 +89,19 @@ pub fn mip_step(evaluator: &mut [u64], interval: &[u8], settled: &mut [u64]) -> 
     ensures { StepLeft evaluator.old interval.now settled.old result evaluator.new settled.new }
 {
     if interval.len() != 48 {
-        return word::word(Refusal {
-            fault: Fault::Length,
-            place: 0,
-        });
+        return word::word(Fault::Length.at(0));
     }
     if evaluator.len() < EVALUATOR {
-        return word::word(Refusal {
-            fault: Fault::Length,
-            place: 0,
-        });
+        return word::word(Fault::Length.at(0));
     }
     if settled.len() < SETTLED {
-        return word::word(Refusal {
-            fault: Fault::Room,
-            place: 0,
-        });
+        return word::word(Fault::Room.at(0));
     }
     match evaluator::step(read(evaluator), interval) {
-        Stepped::Refused(r) => word::word(r),
-        Stepped::Fed(next, answer) => {
-            put(next, evaluator);
-            put_settled(answer, settled);
+        Err(r) => word::word(r),
+        Ok((next, answer)) => {
+            written::put(words_of(next), evaluator);
+            written::put(settled_by(answer), settled);
             0
         }
     }

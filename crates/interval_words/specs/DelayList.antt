@@ -23,9 +23,11 @@ verdict true = 1
 verdict false = 0
 
 -- the four answers, and the words behind them as they were
+abbrev pub answer_words : Figures → List ℕ
+answer_words f = f.percentile ∷ f.range ∷ verdict f.percentile_met ∷ verdict f.range_met ∷ []
+
 abbrev pub words_of : Figures → List ℕ → List ℕ
-words_of f words =
-    (f.percentile ∷ f.range ∷ verdict f.percentile_met ∷ verdict f.range_met ∷ []) ++ drop 4 words
+words_of f words = answer_words f ++ drop 4 words
 
 abbrev pub word_for : Result Figures Refusal → ℕ
 word_for (Err r) = word_of r

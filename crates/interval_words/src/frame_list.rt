@@ -1,7 +1,6 @@
 // From frames to one interval.
 ghost use Rattle.interval_words.specs.FrameList.{IntervalLeft};
 
-use measure::Answer;
 use words::word;
 
 // The interval's record is written into 48 bytes of `out` from `at` on.
@@ -16,7 +15,7 @@ pub fn mip_interval(
     ensures { IntervalLeft settings.now frames.now number maintenance out.old at result out.new }
 {
     match measure::interval(settings, frames, number, maintenance, out, at) {
-        Answer::Written => 0,
-        Answer::Refused(r) => word::word(r),
+        Ok(()) => 0,
+        Err(r) => word::word(r),
     }
 }

@@ -2,7 +2,6 @@
 ghost use Rattle.interval_words.specs.LabelList.{LabelsLeft};
 
 use labels::stretch;
-use labels::stretch::Labelled;
 use words::word;
 
 // Two bytes for each interval are written into `out` from `at` on.
@@ -10,7 +9,7 @@ pub fn mip_labels(settings: &[u8], intervals: &[u8], out: &mut [u8], at: usize) 
     ensures { LabelsLeft settings.now intervals.now out.old at result out.new }
 {
     match stretch::labels(settings, intervals, out, at) {
-        Labelled::Written => 0,
-        Labelled::Refused(r) => word::word(r),
+        Ok(()) => 0,
+        Err(r) => word::word(r),
     }
 }

@@ -3,8 +3,6 @@
 
 ghost use Rattle.summary_words.specs.SummaryList.{SummaryLeft, JoinLeft};
 
-use joining::Joined;
-use making::Made;
 use words::word;
 
 // The summary of the records from the number `first` on is written into 1,024 bytes of `out` from `at` on.
@@ -12,8 +10,8 @@ pub fn mip_summary(settings: &[u8], first: u64, intervals: &[u8], out: &mut [u8]
     ensures { SummaryLeft settings.now first intervals.now out.old at result out.new }
 {
     match making::summary(settings, first, intervals, out, at) {
-        Made::Written => 0,
-        Made::Refused(r) => word::word(r),
+        Ok(()) => 0,
+        Err(r) => word::word(r),
     }
 }
 
@@ -22,7 +20,7 @@ pub fn mip_join(left: &[u8], right: &[u8], out: &mut [u8], at: usize) -> u64
     ensures { JoinLeft left.now right.now out.old at result out.new }
 {
     match joining::join(left, right, out, at) {
-        Joined::Written => 0,
-        Joined::Refused(r) => word::word(r),
+        Ok(()) => 0,
+        Err(r) => word::word(r),
     }
 }

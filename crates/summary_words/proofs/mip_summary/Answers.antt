@@ -5,12 +5,12 @@ use Rattle.summary_words.proofs.Summarised.{summary_fits, summary_word}
 use Rattle.summary_words.proofs.mip_summary.Goals as goal
 
 pub word-requires : goal.word-requires
-word-requires c = summary_fits _ _ _ _ _ _ _ c.summary.ensures c.in-Refused.is
+word-requires c = summary_fits _ _ _ _ _ _ _ c.summary.ensures c.in-Err.is
 
-pub returns-in-Written : goal.returns-in-Written
-returns-in-Written c = summary_word _ _ _ _ _ _ _ c.summary.ensures (sym (ap made_word c.in-Written.is))
+pub returns-in-Ok : goal.returns-in-Ok
+returns-in-Ok c = summary_word _ _ _ _ _ _ _ c.summary.ensures (sym (ap made_word c.in-Ok.is))
 
-pub returns-in-Refused : goal.returns-in-Refused
-returns-in-Refused c =
+pub returns-in-Err : goal.returns-in-Err
+returns-in-Err c =
     summary_word _ _ _ _ _ _ _ c.summary.ensures
-    (c.word.ensures ∙ sym (ap made_word c.in-Refused.is))
+    (c.word.ensures ∙ sym (ap made_word c.in-Err.is))
