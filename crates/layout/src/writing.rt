@@ -137,6 +137,6 @@ pub fn put_track(out: &mut [u8], at: usize, t: Track)
     match t {
         Track::Nothing => put_pieces(out, at, 0, blank_run(), middles::unit(), blank_run()),
         Track::One(r) => put_pieces(out, at, 1, r, middles::unit(), blank_run()),
-        Track::Many(l, m, r) => put_pieces(out, at, 2, l, m, r),
+        Track::Many(first, between, last) => put_pieces(out, at, 2, first, between, last),
     }
 }

@@ -1,5 +1,5 @@
 -- Figures are a commutative monoid, on all values: sums add, and the rest joins by `max`.
-use mathlib.Core.Path.{◌≡◌}
+use mathlib.Core.Path.{◌≡◌, refl}
 use Prim.Native.Nat.{ℕ, max}
 use native.Mathlib.Nat.{add_assoc, add_comm, add-zero, max_comm, max-zero}
 use native.Mathlib.Omega.{arith}
@@ -69,3 +69,7 @@ plus_none a = λ i. record { load = both_idle a.load i; high = add-zero a.high i
 
 pub none_plus : (a : Figures) → plus none a ≡ a
 none_plus a = rw (plus_comm, plus_none)
+
+pub none_count : none.load.count ≡ 0
+unfolding none idle
+none_count = refl

@@ -1,6 +1,6 @@
 -- The tests hold exactly where the rules do.
 use mathlib.Core.Path.{◌≡◌, refl, subst}
-use mathlib.Core.Bool.{Bool, true, false, cond, not, ◌&&◌, ◌||◌, beq}
+use mathlib.Core.Bool.{Bool, true, false, cond, not, ◌&&◌, ◌||◌, beq, and-eq-true_iff}
 use mathlib.Core.List.{List, [], ◌∷◌}
 use Prim.Native.Nat.{ℕ, ◌+◌, ◌-◌, ◌*◌, ◌≤◌, ◌<◌}
 use native.Mathlib.Omega.{arith}
@@ -31,25 +31,18 @@ unfoldable pub Met : List Bool → Type 0
 Met [] = Unit {0}
 Met (r ∷ rs) = (r ≡ true) × Met rs
 
-and_both : (a b : Bool) → (a && b) ≡ true → (a ≡ true) × (b ≡ true)
-and_both true b e = (refl, e)
-and_both false b e = (cc, cc)
-
-both_and : (a b : Bool) → a ≡ true → b ≡ true → (a && b) ≡ true
-both_and a b e f = rw (e, f)
-
 pub met_all : (first : Bool) (rules : List Bool) → met_by first rules ≡ true → (first ≡ true) × Met rules
 unfolding Met
 met_all first [] e = (e, tt)
 met_all first (r ∷ rs) e =
     let h : ((first && r) ≡ true) × Met rs = met_all (first && r) rs e in
-    let g : (first ≡ true) × (r ≡ true) = and_both first r h.0 in
+    let g : (first ≡ true) × (r ≡ true) = (and-eq-true_iff first r).0 h.0 in
     (g.0, (g.1, h.1))
 
 all_met_lem : (first : Bool) (rules : List Bool) → first ≡ true → Met rules → met_by first rules ≡ true
 unfolding Met
 all_met_lem first [] e h = e
-all_met_lem first (r ∷ rs) e h = all_met_lem (first && r) rs (both_and first r e h.0) h.1
+all_met_lem first (r ∷ rs) e h = all_met_lem (first && r) rs ((and-eq-true_iff first r).1 (e, h.0)) h.1
 
 -- a rule that is asked only where a test holds
 unless : (a b : Bool) → (not a || b) ≡ true → a ≡ true → b ≡ true
@@ -85,7 +78,7 @@ load_met l e =
         within = leb-true _ _ h.1.1.0;
         lost_of_sent = leb-true _ _ h.1.1.1.0;
         silent = λ q.
-            let z : (eqb l.most 0 ≡ true) × (eqb l.headroom 0 ≡ true) = and_both _ _ (unless (eqb d 0) (eqb l.most 0 && eqb l.headroom 0) h.1.1.1.1.0 (eq-eqb d 0 (omega arith))) in
+            let z : (eqb l.most 0 ≡ true) × (eqb l.headroom 0 ≡ true) = (and-eq-true_iff _ _).0 (unless (eqb d 0) (eqb l.most 0 && eqb l.headroom 0) h.1.1.1.1.0 (eq-eqb d 0 (omega arith))) in
             (eqb-true _ _ z.0, eqb-true _ _ z.1);
         roomy = leb-true _ _ h.1.1.1.1.1.0;
         ordered = λ q. leb-true _ _ (or_else (eqb d 0) (leb largest_delay (l.most + l.headroom)) h.1.1.1.1.1.1.0 (ne_eqb d 0 (λ z. omega arith)));
@@ -107,7 +100,7 @@ load_meets_lem l v c =
           (
             unless_met _ _ (λ z.
                 let q : l.sent ≡ l.lost = omega (arith, eqb-true (l.sent - l.lost) 0 z, v.lost_of_sent) in
-                both_and _ _ (eq-eqb _ _ (v.silent q).0) (eq-eqb _ _ (v.silent q).1)),
+                (and-eq-true_iff _ _).1 (eq-eqb _ _ (v.silent q).0, eq-eqb _ _ (v.silent q).1)),
             (
               le-leb _ _ v.roomy,
               (
@@ -143,7 +136,7 @@ figures_meet_lem p f v c =
 high_met : (p len count : ℕ) (e : Edges) → high_meets p len count e ≡ true → EdgesValid p len count e
 unfolding high_meets EdgesValid Met
 high_met p len count (Solid k) h =
-    let g : (eqb k len ≡ true) × (eqb count len ≡ true) = and_both (eqb k len) (eqb count len) h in
+    let g : (eqb k len ≡ true) × (eqb count len ≡ true) = (and-eq-true_iff (eqb k len) (eqb count len)).0 h in
     (eqb-true _ _ g.0, eqb-true _ _ g.1)
 high_met p len count (Split x y z) h =
     let rest : List Bool = leb (x + z + p * y) count ∷ (not (eqb p 0) || eqb y 0) ∷ [] in
@@ -152,7 +145,7 @@ high_met p len count (Split x y z) h =
 
 high_meets_lem : (p len count : ℕ) (e : Edges) → EdgesValid p len count e → high_meets p len count e ≡ true
 unfolding high_meets EdgesValid Met
-high_meets_lem p len count (Solid k) v = both_and (eqb k len) (eqb count len) (eq-eqb _ _ v.0) (eq-eqb _ _ v.1)
+high_meets_lem p len count (Solid k) v = (and-eq-true_iff (eqb k len) (eqb count len)).1 (eq-eqb _ _ v.0, eq-eqb _ _ v.1)
 high_meets_lem p len count (Split x y z) v =
     let rest : List Bool = leb (x + z + p * y) count ∷ (not (eqb p 0) || eqb y 0) ∷ [] in
     all_met_lem (ltb (y + count) len) rest (lt-ltb _ _ v.0)
@@ -227,13 +220,13 @@ none_meets f e = rw e
 label_met : (n size : ℕ) (l : Label) (m : Middle) → label_meets n size l m ≡ true → LabelValid n size l m
 unfolding label_meets LabelValid
 label_met n size Inherits m e =
-    let h : (no_figures m.available ≡ true) × (eqb m.unavailable 0 ≡ true) = and_both (no_figures m.available) (eqb m.unavailable 0) e in
+    let h : (no_figures m.available ≡ true) × (eqb m.unavailable 0 ≡ true) = (and-eq-true_iff (no_figures m.available) (eqb m.unavailable 0)).0 e in
     (none_met m.available h.0, eqb-true _ _ h.1)
 label_met n size (Says b) m e = leb-true _ _ e
 
 label_meets_lem : (n size : ℕ) (l : Label) (m : Middle) → LabelValid n size l m → label_meets n size l m ≡ true
 unfolding label_meets LabelValid
-label_meets_lem n size Inherits m v = both_and (no_figures m.available) (eqb m.unavailable 0) (none_meets m.available v.0) (eq-eqb _ _ v.1)
+label_meets_lem n size Inherits m v = (and-eq-true_iff (no_figures m.available) (eqb m.unavailable 0)).1 (none_meets m.available v.0, eq-eqb _ _ v.1)
 label_meets_lem n size (Says b) m v = le-leb _ _ v
 
 pub middle_met : (n p size : ℕ) (m : Middle) → middle_meets n p size m ≡ true → MiddleValid n p size m
@@ -315,18 +308,20 @@ pub track_met : (n p len : ℕ) (t : Track) → track_meets n p len t ≡ true �
 unfolding track_meets TrackValid
 track_met n p len Nothing e = eqb-true len 0 e
 track_met n p len (One r) e =
-    let h : (eqb r.len len ≡ true) × (run_meets p r ≡ true) = and_both (eqb r.len len) (run_meets p r) e in
+    let h : (eqb r.len len ≡ true) × (run_meets p r ≡ true) = (and-eq-true_iff (eqb r.len len) (run_meets p r)).0 e in
     (run_met p r h.1, eqb-true _ _ h.0)
 track_met n p len (Many l m t) e =
-    let h : (leb (l.len + t.len) len ≡ true) × (many_meets n p (len - (l.len + t.len)) l m t ≡ true) = and_both (leb (l.len + t.len) len) (many_meets n p (len - (l.len + t.len)) l m t) e in
+    let h : (leb (l.len + t.len) len ≡ true) × (many_meets n p (len - (l.len + t.len)) l m t ≡ true) = (and-eq-true_iff (leb (l.len + t.len) len) (many_meets n p (len - (l.len + t.len)) l m t)).0 e in
     many_met n p (len - (l.len + t.len)) len l m t (omega (arith, leb-true (l.len + t.len) len h.0)) h.1
 
 -- and one of no more intervals than there are that meets the rules passes them
 pub track_meets_lem : (n p len : ℕ) (t : Track) → TrackValid n p len t → len ≤ intervals → track_meets n p len t ≡ true
 unfolding track_meets TrackValid
 track_meets_lem n p len Nothing v c = eq-eqb len 0 v
-track_meets_lem n p len (One r) v c = both_and (eqb r.len len) (run_meets p r) (eq-eqb _ _ v.1) (run_meets_lem p r v.0 (omega (arith, v.1)))
+track_meets_lem n p len (One r) v c = (and-eq-true_iff (eqb r.len len) (run_meets p r)).1 (eq-eqb _ _ v.1, run_meets_lem p r v.0 (omega (arith, v.1)))
 track_meets_lem n p len (Many l m t) v c =
     let q : v.size ≡ len - (l.len + t.len) = omega (arith, v.lengths) in
-    both_and (leb (l.len + t.len) len) (many_meets n p (len - (l.len + t.len)) l m t) (le-leb (l.len + t.len) len (omega (arith, v.lengths)))
-    (subst (λ k. many_meets n p k l m t ≡ true) q (many_meets_lem n p len l m t v c))
+    (and-eq-true_iff (leb (l.len + t.len) len) (many_meets n p (len - (l.len + t.len)) l m t)).1 (
+      le-leb (l.len + t.len) len (omega (arith, v.lengths)),
+      subst (λ k. many_meets n p k l m t ≡ true) q (many_meets_lem n p len l m t v c),
+    )

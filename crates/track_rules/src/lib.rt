@@ -186,11 +186,11 @@ pub fn track_meets(by: Lengths, len: u32, t: Track) -> bool
     match t {
         Track::Nothing => len == 0,
         Track::One(r) => (r.len == len) & run_meets(by.p, r),
-        Track::Many(first, m, last) => {
+        Track::Many(first, between, last) => {
             if (len as u64) < (first.len as u64) + (last.len as u64) {
                 return false;
             }
-            many_meets(by, len - (first.len + last.len), first, m, last)
+            many_meets(by, len - (first.len + last.len), first, between, last)
         }
     }
 }

@@ -21,6 +21,7 @@ use Rattle.tallies.specs.declared.ByLabel.{ByLabel}
 use Rattle.tracks.specs.Tracks.{start, decided, outcome, finish, sorted, tallied, whole, count_between, count_in}
 use Rattle.tracks.specs.Valid.{TrackValid}
 use Rattle.tallies.specs.Bounds.{Bounded, TallyBounded}
+use Rattle.runs.proofs.Adding.{none_count}
 use Rattle.tracks.proofs.Fitting.{start_fits, begun_fits}
 use Rattle.tracks.proofs.Serving.{count_shut, count_times, count_valid}
 
@@ -51,10 +52,6 @@ start_settled = record { says = false; label = refl; inherited = refl }
 -- all that an outcome counts
 count_out : ByLabel Figures → ℕ
 count_out o = o.available.load.count + o.unavailable + o.undecided.load.count
-
-none_count : none.load.count ≡ 0
-unfolding none idle
-none_count = refl
 
 settled_count : (m : Middle) (f : Figures) → Settled m → count_out (outcome m f) ≡ count_between m + f.load.count
 unfolding count_out count_between

@@ -1,7 +1,7 @@
 -- Every interval of a run has one label. A run of n or more has its mark; a shorter one has the label before it where it is shut, or where
 -- its mark agrees with that label; else, at the end of what is known, it is undecided.
 use mathlib.Core.Path.{◌≡◌, refl, sym, ◌∙◌}
-use mathlib.Core.Bool.{Bool, true, false, not, beq, true≢false, false≢true, Bool-discrete}
+use mathlib.Core.Bool.{Bool, true, false, not, beq, not-eq-not, Bool-discrete}
 use mathlib.Core.List.{List, [], ◌∷◌, ◌++◌}
 use Prim.Native.Nat.{ℕ, suc, ◌+◌, ◌-◌, ◌≤◌, ◌<◌}
 use native.Mathlib.Nat.{add-zero, add-suc, suc-add}
@@ -12,15 +12,13 @@ use Rattle.rule.specs.Labels.{Marks, before, lab, Begins, Label, settled, undeci
 use Rattle.rule.proofs.Windows.{Agreeing, stays, turns, not_not}
 use Rattle.rule.proofs.Continuing.{begins_forever}
 use Rattle.rule.proofs.Labelling.{meaning_one}
+use Rattle.std.specs.Cmp.{booleans_Decides}
 use Rattle.tallies.specs.declared.Marked.{Marked}
 use Rattle.tallies.specs.Tally.{Labels, marks}
 use Rattle.tracks.proofs.Spanning.{AllMarked, Uniform, uniform_by}
 
 pub beq_yes : (a b : Bool) → beq a b ≡ true → a ≡ b
-beq_yes true true e = refl
-beq_yes true false e = cc
-beq_yes false true e = cc
-beq_yes false false e = refl
+beq_yes a b = (booleans_Decides a b).0
 
 pub other : (a b : Bool) → beq a b ≡ false → a ≡ not b
 other true true e = cc
@@ -33,10 +31,6 @@ not_of true true h = absurd (h refl)
 not_of true false h = refl
 not_of false true h = refl
 not_of false false h = absurd (h refl)
-
-not_self : (b : Bool) → b ≡ not b → ⊥
-not_self true e = true≢false e
-not_self false e = false≢true e
 
 -- a run of the mark b from s on, of the length d, behind the label l
 pub record Stands (n : ℕ) (f : Marks) (s d : ℕ) (l b : Bool) : Type 0 where
@@ -169,7 +163,7 @@ undecided_end n some ms s l b xs all r w e at g =
 
     apart : (i : ℕ) → s ≤ i → i < s + length xs → lab n (followed b) i ≡ lab n (followed l) i → ⊥
     apart i p q z =
-        not_self b
+        not-eq-not.1 (refl {a = b})
         (sym (filling n (followed b) s (length xs + n) l b on (omega arith) i p (omega arith))
         ∙ z
         ∙ shutting n (followed l) s (length xs) l b (stands n some ms s l b xs [] all r (followed l) (begins_forever ms l)) w

@@ -3,7 +3,7 @@
 -- it out of the tally.
 use mathlib.Core.Path.{◌≡◌, refl, ap, ◌∙◌}
 use mathlib.Core.Bool.{Bool, true, false, cond, and-false}
-use mathlib.Core.List.{List, [], ◌∷◌, ◌++◌, map, append_assoc, append-nil}
+use mathlib.Core.List.{List, [], ◌∷◌, ◌++◌, map, map-append, append_assoc, append-nil}
 use Prim.Native.Nat.{ℕ, suc, ◌+◌, ◌-◌, ◌≤◌, ◌<◌, max}
 use native.Mathlib.Omega.{arith}
 use native.Mathlib.Nat.{add-zero, zero-add}
@@ -182,12 +182,8 @@ unfolding maintained
 marks_quiet [] = refl
 marks_quiet (x ∷ xs) = rw (marks_quiet xs)
 
-marks_append : (xs ys : List Marked) → marks (xs ++ ys) ≡ marks xs ++ marks ys
-marks_append [] ys = refl
-marks_append (x ∷ xs) ys = rw (marks_append xs ys)
-
 marks_between : (before period after : List Marked) → marks ((map maintained before ++ period) ++ map maintained after) ≡ marks (before ++ (period ++ after))
-marks_between before period after = simp (marks_append, marks_quiet, append_assoc)
+marks_between before period after = simp (map-append, marks_quiet, append_assoc)
 
 -- The report of a period between two stretches: the tally of its intervals by the labels of all that is known.
 pub period_tally : (n p : ℕ) → 1 ≤ n → (before period after : List Marked) → AllSound period → (at : ℕ → Label) → Labels n (marks (before ++ (period ++ after))) at

@@ -58,11 +58,6 @@ count_one : (x : Marked) → x.maintenance ≡ false → (single x).load.count �
 unfolding single load_of gross
 count_one x e = rw e
 
-pub count_many : (a : Track) (l : Run) (m : Middle) (t : Run) → a ≡ Many l m t
-    → count_in a ≡ l.load.count + (m.inherited.load.count + (m.available.load.count + m.unavailable) + t.load.count)
-unfolding count_in count_between
-count_many a l m t e = ap count_in e
-
 module _ (n p : ℕ) where
   count_push : (a : Track) (r : Run) → count_in (push n p a r) ≡ count_in a + r.load.count
   unfolding count_in push

@@ -1,8 +1,8 @@
 -- The figures of the intervals with one label, over a stretch: they add up at the border of two runs, and over a run of one label
 -- they are the figures that the run keeps.
 use mathlib.Core.Path.{◌≡◌, refl, sym, ◌∙◌}
-use mathlib.Core.Bool.{Bool, true, false, cond, not, ◌&&◌, and-false}
-use mathlib.Core.List.{List, [], ◌∷◌, ◌++◌, map}
+use mathlib.Core.Bool.{Bool, true, false, cond, not, ◌&&◌, and-false, and_comm}
+use mathlib.Core.List.{List, [], ◌∷◌, ◌++◌, map, map-append}
 use Prim.Native.Nat.{ℕ, suc, ◌+◌, ◌≤◌, ◌<◌}
 use native.Mathlib.Omega.{arith}
 use native.Mathlib.Nat.{add-zero, zero-add, add-suc, suc-add}
@@ -97,10 +97,6 @@ unfolding borne
 borne_append [] ys = sym (idle_both (borne ys))
 borne_append (x ∷ xs) ys = rw (borne_append xs ys, both_assoc)
 
-solids_append : (xs ys : List Marked) → solids (xs ++ ys) ≡ solids xs ++ solids ys
-solids_append [] ys = refl
-solids_append (x ∷ xs) ys = rw (solids_append xs ys)
-
 -- one interval is a run
 pub spanned_single : (p : ℕ) (x : Marked) → single x ≡ spanned p x.mark (x ∷ [])
 unfolding single spanned borne ties
@@ -109,7 +105,7 @@ spanned_single p x = rw (both_idle, tie_solid)
 -- one more of its mark behind a run
 pub spanned_more : (p : ℕ) (b : Bool) (xs : List Marked) (x : Marked) → glue p (spanned p b xs) (single x) ≡ spanned p b (xs ++ (x ∷ []))
 unfolding glue single spanned borne ties
-spanned_more p b xs x = rw (borne_append, solids_append, ties_append, length-append, both_idle, tie_solid)
+spanned_more p b xs x = rw (borne_append, map-append, ties_append, length-append, both_idle, tie_solid)
 
 -- all have the label l
 unfoldable pub Uniform : Label → (ℕ → Label) → ℕ → List Marked → Type 0
@@ -147,12 +143,6 @@ loads_in want l at k (x ∷ xs) e u = by x.maintenance refl (loads_in want l at 
     by : (m : Bool) → x.maintenance ≡ m → loads (those want at (suc k) xs) ≡ borne xs → loads (those want at k (x ∷ xs)) ≡ borne (x ∷ xs)
     by true f rest = rw (u.0, e, f, idle_both) rest
     by false f rest = rw (u.0, e, f, rest)
-
-and_comm : (a b : Bool) → (a && b) ≡ (b && a)
-and_comm true true = refl
-and_comm true false = refl
-and_comm false true = refl
-and_comm false false = refl
 
 highs_in : (want l : Label) (at : ℕ → Label) (k : ℕ) (xs : List Marked) → is want l ≡ true → Uniform l at k xs → highs want at k xs ≡ solids xs
 unfolding highs counts Uniform

@@ -25,7 +25,7 @@ use Rattle.runs.specs.Runs.{single, glue, same, figures_of}
 use Rattle.runs.specs.Middles.{unit, placed, verdict, shut, times, times_by, over}
 use Rattle.tracks.specs.Tracks.{push, push_all, summary, start, decided, outcome, finish, sorted}
 use Rattle.tallies.specs.Tally.{is, those, highs, number, Labels, marks}
-use Rattle.runs.proofs.Adding.{plus_assoc, plus_none, none_plus}
+use Rattle.runs.proofs.Adding.{none_count, plus_assoc, plus_none, none_plus}
 use Rattle.runs.proofs.Placing.{times_unit, times_assoc}
 use Rattle.tracks.proofs.Counting.{NoneOf, runs_none}
 use Rattle.tracks.proofs.Spanning.{loads, figures, figures_border, figures_in_lem, figures_out, AllMarked, spanned, spanned_single, spanned_more, Uniform}
@@ -136,10 +136,6 @@ label_placed m true e (Says false) f = rw e
 label_placed m false e Inherits f = rw e
 label_placed m false e (Says true) f = rw e
 label_placed m false e (Says false) f = rw e
-
-none_count : none.load.count ≡ 0
-unfolding none idle
-none_count = refl
 
 -- a run that is shut adds its figures with that label
 outcome_placed : (m : Middle) (l : Bool) → m.label ≡ Says l → (v : Label) (f : Figures)

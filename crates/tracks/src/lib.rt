@@ -14,7 +14,8 @@ use runs::run::{Lengths, Run};
 use runs::{figures, middles, run};
 use tallies::{ByLabel, Totals};
 
-// Nothing, one run, or a first run, what lies between, and a last run.
+// Nothing, one run, or a first run, what lies between, and a last run. The three stand as in time, so they have no names: with them each arm
+// takes five lines.
 #[derive(Clone, Copy)]
 pub enum Track {
     Nothing,
@@ -63,7 +64,13 @@ pub fn push(by: Lengths, a: Track, r: Run) -> Track
                 Track::Many(t, middles::unit(), r)
             }
         }
-        Track::Many(l, m, t) => Track::Many(l, middle_with(by, m, t, r), last_with(by.p, t, r)),
+        Track::Many(first, between, last) => {
+            Track::Many(
+                first,
+                middle_with(by, between, last, r),
+                last_with(by.p, last, r),
+            )
+        }
     }
 }
 
@@ -76,10 +83,10 @@ fn graft(by: Lengths, a: Track, m: Middle, t: Run) -> Track
     match a {
         Track::Nothing => Track::One(t),
         Track::One(l) => Track::Many(l, m, t),
-        Track::Many(l, held, last) => {
+        Track::Many(first, between, last) => {
             Track::Many(
-                l,
-                middles::times(held, middles::times(middles::shut(by, last), m)),
+                first,
+                middles::times(between, middles::times(middles::shut(by, last), m)),
                 t,
             )
         }
@@ -95,7 +102,7 @@ pub fn join(by: Lengths, a: Track, b: Track) -> Track
     match b {
         Track::Nothing => a,
         Track::One(r) => push(by, a, r),
-        Track::Many(l, m, t) => graft(by, push(by, a, l), m, t),
+        Track::Many(first, between, last) => graft(by, push(by, a, first), between, last),
     }
 }
 
@@ -107,10 +114,10 @@ pub fn quiet(a: Track) -> Track
     match a {
         Track::Nothing => Track::Nothing,
         Track::One(r) => Track::One(run::quiet_run(r)),
-        Track::Many(l, m, t) => Track::Many(
-            run::quiet_run(l),
-            middles::quiet_middle(m),
-            run::quiet_run(t),
+        Track::Many(first, between, last) => Track::Many(
+            run::quiet_run(first),
+            middles::quiet_middle(between),
+            run::quiet_run(last),
         ),
     }
 }
@@ -168,10 +175,10 @@ pub fn sorted(by: Lengths, t: Track) -> ByLabel<Figures>
             undecided: figures::none(),
         },
         Track::One(last) => finish(by, start(), last),
-        Track::Many(first, m, last) => {
+        Track::Many(first, between, last) => {
             finish(
                 by,
-                middles::times(middles::times(start(), middles::shut(by, first)), m),
+                middles::times(middles::times(start(), middles::shut(by, first)), between),
                 last,
             )
         }
