@@ -15,9 +15,8 @@ take_read d k n text part within fits =
     ∙ take-append-add (take d text) (part ++ post_of d k text) n
     ∙ ap (λ l. take d text ++ l) (take-append-le n part (post_of d k text) fits))
 
-pub loop-n-preserved-in-Ok : goal.loop-n-preserved-in-Ok
-loop-n-preserved-in-Ok g c =
-    let before = c.loop-n.invariant in
-    let read = c.in-Ok.ensures in
-    let whole = take_read c.loop-n.done (length c.loop-n.text - c.loop-n.done) c.in-Ok.n c.loop-n.text c.read.new.buf before.0 read.bound.0 in
-    (search rules, subst (Consumes _ _) whole (Consumes-trans _ _ _ _ _ before.1 read.bytes.0))
+pub loop-preserved : goal.loop-preserved
+loop-preserved g c =
+    let before = c.loop.invariant in
+    let whole = take_read c.loop.done (length c.loop.text - c.loop.done) c.in-Ok.n c.loop.text c.read.new.buf before.0 c.in-Ok.ensures.bound.0 in
+    (search rules, subst (Consumes _ _) whole (Consumes-trans _ _ _ _ _ before.1 c.in-Ok.ensures.bytes.0))
