@@ -1,40 +1,17 @@
 // The lines of a text, the words of a line, and the numbers that words are. Words stand between single spaces, so that a word may be empty; what is past
 // the last is empty too.
-ghost use Rattle.std.specs.Io.KnownBytes.{Consumes, IsAtEnd};
-ghost use Rattle.std.specs.Prelude.{ℕ, ◌<◌, ◌≤◌, length, take, IfOk};
-
 use std::io;
-use std::io::{ErrorKind, Read};
 
 const SPACE: u8 = b' ';
 
 const END: u8 = b'\n';
-
-// Reads until `text` is full or the input ends, and says how many bytes that is. A read that a signal interrupts has read nothing. No reader of std does this without a
-// vector: `read_exact` does not say how many bytes came before the end, and `io::copy` into a slice promises nothing of its bytes.
-pub fn read_full<R: Read>(input: &mut R, text: &mut [u8]) -> io::Result<usize>
-    ensures bound { IfOk result (λ n. n ≤ length text.new) }
-    ensures bytes { IfOk result (λ n. Consumes (R.remaining input.old) (R.remaining input.new) (take n text.new)) }
-    ensures end { IfOk result (λ n. n < length text.new → IsAtEnd (R.remaining input.new)) }
-{
-    let mut done: usize = 0;
-    for _ in 0..u64::MAX {
-        match input.read(&mut text[done..]) {
-            Ok(0) => return Ok(done),
-            Ok(n) => done += n,
-            Err(e) if e.kind() == ErrorKind::Interrupted => continue,
-            Err(e) => return Err(e),
-        }
-    }
-    Err(ErrorKind::TimedOut.into())
-}
 
 // Runs `case` on each line of the input, without its end. Of a text that is longer than 8,192 bytes the rest is not read, and what stands behind the last end is not run.
 pub fn each<F: FnMut(&[u8]) -> io::Result<()>>(rt: &impl Input, case: F) -> io::Result<()>
     requires { F.IsAlwaysCallable case }
 {
     let mut text = [0u8; 8192];
-    let n = read_full(&mut rt.reader(), &mut text)?;
+    let n = input::read_full(&mut rt.reader(), &mut text)?;
     text[..n]
         .split_inclusive(|b| *b == END)
         .filter_map(|line| line.strip_suffix(b"\n"))

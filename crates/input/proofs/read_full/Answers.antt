@@ -1,10 +1,10 @@
--- `cases::lines::read_full`: the bytes so far and those that a read put behind them are the bytes that both took from the input.
-use Rattle.std.proofs.Common.{◌≡◌, ℕ, ◌+◌, ◌-◌, ◌≤◌, List, ◌++◌, length, take, sym, ap, ◌∙◌, subst, arith, length-take-le, rules}
+-- `input::read_full`: the bytes so far and those that a read put behind them are the bytes that both took from the input.
+use Rattle.std.proofs.Common.{◌≡◌, ℕ, ◌+◌, ◌-◌, ◌≤◌, List, ◌++◌, length, take, sym, ap, ◌∙◌, subst, length-take-le, rules}
 use Rattle.std.specs.Io.KnownBytes.{Consumes}
 use Rattle.std.proofs.KnownBytes.{Consumes-trans}
 use borrow.Rule.Slice.PartMut.{put_mid, post_of}
 use lib.Seq.{take-append-add, take-append-le}
-use Rattle.cases.proofs.lines.read_full.Goals as goal
+use Rattle.input.proofs.read_full.Goals as goal
 
 -- the first bytes once a part behind the first `d` was read into
 take_read :
