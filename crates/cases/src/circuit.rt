@@ -3,9 +3,6 @@
 use crate::lines;
 use numbers::bytes;
 
-// Room for 72 intervals.
-pub const RECORDS: usize = 3456;
-
 // Settings with the interval length 60,000 ms, C, U and Pr one half and the loss weight alone.
 pub fn settings(n: u8, p: u8) -> [u8; 64] {
     let mut s = [0u8; 64];
@@ -50,10 +47,12 @@ fn put_letter(record: &mut [u8], letter: u8) {
     }
 }
 
-// The records of the letters, from 0 on, as far as there is room, and 72 at most, into zeros.
-pub fn put_records(records: &mut [u8], letters: &[u8]) {
+// The records of the letters, from 0 on, as far as there is room, and 72 at most; zeros behind them.
+pub fn records<const N: usize>(letters: &[u8]) -> [u8; N] {
+    let mut records = [0u8; N];
     for ((number, record), letter) in (0..72).zip(records.chunks_exact_mut(48)).zip(letters) {
         bytes::put_u32(record, 0, number);
         put_letter(record, *letter);
     }
+    records
 }

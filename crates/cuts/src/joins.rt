@@ -1,8 +1,5 @@
 // Stretches of one interval each, joined from left to right, from right to left and in pairs: each gives the bytes of the uncut stretch.
-ghost use Rattle.std.specs.Prelude.{◌≤◌};
-
 use crate::stretches::Circuit;
-use cases::circuit::RECORDS;
 use cases::{circuit, lines, printing};
 use making::Made;
 use numbers::bytes;
@@ -22,47 +19,42 @@ fn prepend(held: &mut [u8; 1024], before: [u8; 1024]) {
     *held = out;
 }
 
-fn from_left(circuit: Circuit, count: usize) -> [u8; 1024] {
+fn from_left(circuit: &Circuit) -> [u8; 1024] {
     let mut held = circuit.summary(0, 0);
-    for k in 0..count {
+    for k in 0..circuit.count {
         append(&mut held, circuit.summary(k, k + 1));
     }
     held
 }
 
-fn from_right(circuit: Circuit, count: usize) -> [u8; 1024] {
-    let mut held = circuit.summary(count, count);
-    for k in (0..count).rev() {
+fn from_right(circuit: &Circuit) -> [u8; 1024] {
+    let mut held = circuit.summary(circuit.count, circuit.count);
+    for k in (0..circuit.count).rev() {
         prepend(&mut held, circuit.summary(k, k + 1));
     }
     held
 }
 
 // Two neighbours at a time, and what is left behind them.
-fn in_pairs(circuit: Circuit, count: usize) -> [u8; 1024]
-    requires { count ≤ 72 }
-{
+fn in_pairs(circuit: &Circuit) -> [u8; 1024] {
     let mut held = circuit.summary(0, 0);
-    for k in 0..count / 2 {
+    for k in 0..circuit.count / 2 {
         let mut pair = circuit.summary(2 * k, 2 * k + 1);
         append(&mut pair, circuit.summary(2 * k + 1, 2 * k + 2));
         append(&mut held, pair);
     }
-    append(&mut held, circuit.summary(count / 2 * 2, count));
+    append(
+        &mut held,
+        circuit.summary(circuit.count / 2 * 2, circuit.count),
+    );
     held
 }
 
 // Whether each is the whole, and the number after the last interval.
-fn grouped(rt: &impl Print, circuit: Circuit, count: usize) -> io::Result<()>
-    requires { count ≤ 72 }
-{
-    let whole = circuit.summary(0, count);
+fn grouped(rt: &impl Print, circuit: &Circuit) -> io::Result<()> {
+    let whole = circuit.summary(0, circuit.count);
     print!(rt; " ")?;
-    for other in [
-        from_left(circuit, count),
-        from_right(circuit, count),
-        in_pairs(circuit, count),
-    ] {
+    for other in [from_left(circuit), from_right(circuit), in_pairs(circuit)] {
         print!(rt; "{}", u8::from(whole == other))?;
     }
     println!(rt; " {}", bytes::get_u32(&whole, 4))
@@ -71,15 +63,10 @@ fn grouped(rt: &impl Print, circuit: Circuit, count: usize) -> io::Result<()>
 // Letters, n and p.
 pub fn line(rt: &impl Print, case: &[u8]) -> io::Result<()> {
     let letters = lines::word(case, 1);
-    let mut records = [0u8; RECORDS];
-    circuit::put_records(&mut records, letters);
     rt.write_all(lines::rest(case, 1))?;
     if letters.len() <= 72 {
-        let circuit = Circuit {
-            settings: &circuit::settings_at(case, 2),
-            records: &records,
-        };
-        grouped(rt, circuit, letters.len())?;
+        let circuit = Circuit::new(circuit::settings_at(case, 2), letters);
+        grouped(rt, &circuit)?;
     }
     Ok(())
 }

@@ -1,6 +1,5 @@
 // Reports of a period between two stretches, and its verdicts.
 use crate::stretches::Circuit;
-use cases::circuit::RECORDS;
 use cases::{circuit, lines, printing};
 use numbers::bytes;
 use reports::Reported;
@@ -46,14 +45,9 @@ pub fn show_set(rt: &impl Print, s: &[u8], pairs: u64, summaries: &[u8]) -> io::
 }
 
 // The three summaries of the letters, cut before the `a`-th and before the `b`-th interval.
-pub fn put_three(settings: &[u8], letters: &[u8], a: usize, b: usize, out: &mut [u8]) {
-    let mut records = [0u8; RECORDS];
-    circuit::put_records(&mut records, letters);
-    let circuit = Circuit {
-        settings,
-        records: &records,
-    };
-    let cuts = [(0, a), (a, b), (b, letters.len())];
+pub fn put_three(settings: [u8; 64], letters: &[u8], a: usize, b: usize, out: &mut [u8]) {
+    let circuit = Circuit::new(settings, letters);
+    let cuts = [(0, a), (a, b), (b, circuit.count)];
     for ((from, to), summary) in cuts.into_iter().zip(out.chunks_exact_mut(1024)) {
         circuit.put_summary(from, to, summary);
     }
@@ -65,7 +59,7 @@ pub fn line(rt: &impl Print, case: &[u8]) -> io::Result<()> {
     let letters = lines::word(case, 3);
     let mut three = [0u8; 3072];
     put_three(
-        &s,
+        s,
         letters,
         lines::get_usize(case, 4),
         lines::get_usize(case, 5),
@@ -97,13 +91,13 @@ pub fn objective(rt: &impl Print, case: &[u8]) -> io::Result<()> {
         lines::get_u32(case, 5),
     );
     printing::head(rt, lines::rest(case, 3))?;
-    verdict_line(rt, &s, lines::word(case, 3))
+    verdict_line(rt, s, lines::word(case, 3))
 }
 
 // The verdicts on all of the intervals.
-pub fn verdict_line(rt: &impl Print, s: &[u8], letters: &[u8]) -> io::Result<()> {
+pub fn verdict_line(rt: &impl Print, s: [u8; 64], letters: &[u8]) -> io::Result<()> {
     let mut three = [0u8; 3072];
     put_three(s, letters, 0, letters.len(), &mut three);
-    show_set(rt, s, 1, &three)?;
+    show_set(rt, &s, 1, &three)?;
     println!(rt)
 }

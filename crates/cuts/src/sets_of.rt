@@ -1,7 +1,6 @@
 // Verdicts of several pairs.
 use crate::periods_of;
 use crate::stretches::Circuit;
-use cases::circuit::RECORDS;
 use cases::{circuit, lines, printing};
 use numbers::bytes;
 use std::io;
@@ -11,7 +10,7 @@ pub fn fifteen_of_seventeen(rt: &impl Print, case: &[u8]) -> io::Result<()> {
     let mut s = circuit::settings(2, 0);
     bytes::put_u32(&mut s, 24, lines::get_u32(case, 5));
     printing::head(rt, lines::rest(case, 1))?;
-    periods_of::verdict_line(rt, &s, b"LLLLHHLLLLLLLLLLL")
+    periods_of::verdict_line(rt, s, b"LLLLHHLLLLLLLLLLL")
 }
 
 // An objective's place in settings, the letters of two pairs, the objective's name and its value; the others are 0: the verdicts of both, the whole of each one's letters
@@ -23,7 +22,7 @@ pub fn two(rt: &impl Print, case: &[u8]) -> io::Result<()> {
     let mut six = [0u8; 6144];
     for (k, three) in (2..).zip(six.chunks_exact_mut(3072)) {
         let letters = lines::word(case, k);
-        periods_of::put_three(&s, letters, 0, letters.len(), three);
+        periods_of::put_three(s, letters, 0, letters.len(), three);
     }
     periods_of::show_set(rt, &s, 2, &six)?;
     println!(rt)
@@ -34,15 +33,12 @@ fn digit(word: &[u8], k: usize) -> usize {
     usize::from(bytes::get_u8(word, k).wrapping_sub(b'0'))
 }
 
-// A summary, as a word says it: its two digits are the number of the first interval and the number after the last. With an `m` behind them its label settings, here n,
+// A summary of nine L, as a word says it: its two digits are the number of the first interval and the number after the last. With an `m` behind them its label settings, here n,
 // are others, and with an `x` its last byte, a spare one, is not zero.
-fn put_said(records: &[u8], word: &[u8], summary: &mut [u8]) {
+fn put_said(word: &[u8], summary: &mut [u8]) {
     let mark = bytes::get_u8(word, 2);
     let n = if mark == b'm' { 4 } else { 3 };
-    let circuit = Circuit {
-        settings: &circuit::settings(n, 2),
-        records,
-    };
+    let circuit = Circuit::new(circuit::settings(n, 2), b"LLLLLLLLL");
     circuit.put_summary(digit(word, 0), digit(word, 1), summary);
     if mark == b'x' {
         bytes::put_u8(summary, 1023, 1);
@@ -51,11 +47,9 @@ fn put_said(records: &[u8], word: &[u8], summary: &mut [u8]) {
 
 // Six summaries, each a word.
 fn said(case: &[u8]) -> [u8; 6144] {
-    let mut records = [0u8; RECORDS];
-    circuit::put_records(&mut records, b"LLLLLLLLL");
     let mut six = [0u8; 6144];
     for (k, summary) in (1..).zip(six.chunks_exact_mut(1024)) {
-        put_said(&records, lines::word(case, k), summary);
+        put_said(lines::word(case, k), summary);
     }
     six
 }

@@ -1,16 +1,26 @@
 // A circuit, and the summaries of some of its records.
+use cases::circuit;
 
-// Settings, and room for 72 records.
+// Settings, room for 72 records with zeros behind the last, and how many there are: a case may ask for a stretch that goes on behind the last.
 #[derive(Clone, Copy)]
-pub struct Circuit<'a> {
-    pub settings: &'a [u8],
-    pub records: &'a [u8],
+pub struct Circuit {
+    settings: [u8; 64],
+    records: [u8; 3456],
+    pub count: usize,
 }
 
-impl<'a> Circuit<'a> {
+impl Circuit {
+    pub fn new(settings: [u8; 64], letters: &[u8]) -> Circuit {
+        Circuit {
+            settings,
+            records: circuit::records(letters),
+            count: letters.len(),
+        }
+    }
+
     // The records from the `a`-th on to before the `b`-th.
-    fn between(self, a: usize, b: usize) -> &'a [u8] {
-        if a <= b && b <= self.records.len() / 48 {
+    fn between(&self, a: usize, b: usize) -> &[u8] {
+        if a <= b && b <= 72 {
             &self.records[48 * a..48 * b]
         } else {
             &[]
@@ -18,12 +28,12 @@ impl<'a> Circuit<'a> {
     }
 
     // The summary of these records, at the start of `out`, if there is one.
-    pub fn put_summary(self, a: usize, b: usize, out: &mut [u8]) {
-        making::summary(self.settings, a as u64, self.between(a, b), out, 0);
+    pub fn put_summary(&self, a: usize, b: usize, out: &mut [u8]) {
+        making::summary(&self.settings, a as u64, self.between(a, b), out, 0);
     }
 
     // The same into zeros.
-    pub fn summary(self, a: usize, b: usize) -> [u8; 1024] {
+    pub fn summary(&self, a: usize, b: usize) -> [u8; 1024] {
         let mut out = [0u8; 1024];
         self.put_summary(a, b, &mut out);
         out

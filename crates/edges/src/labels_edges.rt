@@ -82,8 +82,7 @@ fn show_evaluator(rt: &impl Print, s: &[u8], records: &[u8]) -> io::Result<()> {
 pub fn line(rt: &impl Print, case: &[u8]) -> io::Result<()> {
     let s = circuit::settings_at(case, 1);
     let letters = lines::word(case, 3);
-    let mut records = [0u8; RECORDS];
-    circuit::put_records(&mut records, letters);
+    let records = circuit::records::<RECORDS>(letters);
     rt.write_all(letters)?;
     if letters.len() <= 8 {
         let records = &records[..48 * letters.len()];
