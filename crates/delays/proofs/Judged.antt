@@ -9,20 +9,20 @@ use native.Mathlib.Omega.{arith}
 use lib.ListN.{length}
 use lib.Dec.{leb, ltb}
 use borrow.Author.Tests.{le-leb, lt-leb, lt-ltb, le-ltb}
+use Rattle.std.specs.Prelude.{Option, Some, None, Result, Ok, Err}
 use Rattle.numbers.specs.Limits.{delays, largest_delay, million}
 use Rattle.numbers.specs.Refusals.{refusal}
 use Rattle.numbers.specs.declared.refusal.Fault.{Fault}
 use Rattle.numbers.specs.declared.refusal.Refusal.{Refusal}
 use Rattle.settings.specs.Settings.{settings_of}
 use Rattle.settings.specs.declared.Settings.{Settings}
-use Rattle.settings.specs.declared.SettingsRead.{SettingsRead}
 use Rattle.percentile.specs.Percentile.{at_most, keep, least, percentile, range, place_above}
 use Rattle.percentile.specs.Ranks.{Ranked}
 use Rattle.percentile.proofs.Counts.{count_le}
 use Rattle.percentile.proofs.Percentile.{least_below, listed_here, ranked_percentile}
 use Rattle.percentile.proofs.Place.{place_all, place_some, place_le}
 use Rattle.delays.specs.Outcome.{Rank, answered, pick, judged, with_settings, outcome}
-use Rattle.delays.specs.declared.Outcome.{Outcome}
+use Rattle.delays.specs.declared.Figures.{Figures}
 
 -- a delay of the rank is the percentile, and less the least delay the range
 module _ (pr : ℕ) (xs : List ℕ) (k d : ℕ) (most : pr ≤ million) (asked : Rank pr (length xs) k) (found : Ranked k xs d) where
@@ -44,12 +44,12 @@ none_listed pr [] e = (refl, refl)
 none_listed pr (x ∷ xs) e = absurd (omega arith)
 
 module _ (v : Settings) (xs : List ℕ) where
-  pub judged_full : delays < length xs → Outcome.Refused (refusal Fault.Full 0) ≡ judged v xs
+  pub judged_full : delays < length xs → Err (refusal Fault.Full 0) ≡ judged v xs
   unfolding judged
   judged_full h = rw (lt-leb (length xs) delays h)
 
   pub judged_field : (at n : ℕ) → length xs ≤ delays → n ≡ at_most largest_delay xs → n < length xs → at ≡ place_above largest_delay xs
-      → Outcome.Refused (refusal Fault.Field at) ≡ judged v xs
+      → Err (refusal Fault.Field at) ≡ judged v xs
   unfolding judged
   judged_field at n h w s e =
       rw (
@@ -82,22 +82,22 @@ module _ (v : Settings) (xs : List ℕ) where
       (percentile_found v.percentile xs k d most asked found) (range_found v.percentile xs k d most asked found m e)
 
 -- with settings that are read as v, or as invalid
-pub outcome_valid : (s xs : List ℕ) (v : Settings) → settings_of s ≡ SettingsRead.Valid v → judged v xs ≡ outcome s xs
+pub outcome_valid : (s xs : List ℕ) (v : Settings) → settings_of s ≡ Some v → judged v xs ≡ outcome s xs
 unfolding outcome
 outcome_valid s xs v e = rw e
 
-pub outcome_invalid : (s xs : List ℕ) → settings_of s ≡ SettingsRead.Invalid → Outcome.Refused (refusal Fault.Settings 0) ≡ outcome s xs
+pub outcome_invalid : (s xs : List ℕ) → settings_of s ≡ None → Err (refusal Fault.Settings 0) ≡ outcome s xs
 unfolding outcome
 outcome_invalid s xs e = rw e
 
 -- the place of a refusal is that of a delay, so it is at most 1,000,000
 
-place_of : Outcome → ℕ
-place_of (Outcome.Refused r) = r.place
-place_of (Outcome.Answered f) = 0
+place_of : Result Figures Refusal → ℕ
+place_of (Err r) = r.place
+place_of (Ok f) = 0
 
 field_place : (b : Bool) (v : Settings) (at d r : ℕ)
-    → place_of (pick b (Outcome.Refused (refusal Fault.Field at)) (answered v d r)) ≤ at
+    → place_of (pick b (Err (refusal Fault.Field at)) (answered v d r)) ≤ at
 unfolding place_of
 field_place true v at d r = le_refl at
 field_place false v at d r = omega arith
@@ -117,15 +117,15 @@ judged_place v xs =
       | no h ↦ rw (lt-leb (length xs) delays (omega arith)) (omega arith)
     ]
 
-read_place : (o : SettingsRead) (xs : List ℕ) → place_of (with_settings o xs) ≤ delays
+read_place : (o : Option Settings) (xs : List ℕ) → place_of (with_settings o xs) ≤ delays
 unfolding place_of
-read_place (SettingsRead.Valid v) xs = judged_place v xs
-read_place SettingsRead.Invalid xs = omega arith
+read_place (Some v) xs = judged_place v xs
+read_place None xs = omega arith
 
-pub refused_place : (s xs : List ℕ) (r : Refusal) → outcome s xs ≡ Outcome.Refused r → r.place ≤ delays
+pub refused_place : (s xs : List ℕ) (r : Refusal) → outcome s xs ≡ Err r → r.place ≤ delays
 unfolding outcome place_of
-refused_place s xs r e = subst (λ (o : Outcome). place_of o ≤ delays) e (read_place (settings_of s) xs)
+refused_place s xs r e = subst (λ (o : Result Figures Refusal). place_of o ≤ delays) e (read_place (settings_of s) xs)
 
 -- two results that the contract of `delays` allows coincide
-pub delays_coincide : (s xs : List ℕ) (a b : Outcome) → a ≡ outcome s xs → b ≡ outcome s xs → a ≡ b
+pub delays_coincide : (s xs : List ℕ) (a b : Result Figures Refusal) → a ≡ outcome s xs → b ≡ outcome s xs → a ≡ b
 delays_coincide s xs a b p q = cc

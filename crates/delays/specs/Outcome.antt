@@ -1,13 +1,13 @@
 -- What the operation answers, for every settings slice and every list.
-use Rattle.std.specs.Prelude.{ℕ, ◌+◌, ◌*◌, ◌<◌, ◌≤◌, Bool, true, false, List, length, leb, ltb}
+use Rattle.std.specs.Prelude.{ℕ, ◌+◌, ◌*◌, ◌<◌, ◌≤◌, Bool, true, false, List, length, leb, ltb, Option, Some, None, Result, Ok, Err}
 use Rattle.numbers.specs.Limits.{delays, largest_delay, million}
 use Rattle.numbers.specs.Refusals.{refusal}
 use Rattle.numbers.specs.declared.refusal.Fault.{Fault}
 use Rattle.settings.specs.Settings.{settings_of}
 use Rattle.settings.specs.declared.Settings.{Settings}
-use Rattle.settings.specs.declared.SettingsRead.{SettingsRead}
 use Rattle.percentile.specs.Percentile.{percentile, range, place_above}
-use Rattle.delays.specs.declared.Outcome.{Outcome}
+use Rattle.numbers.specs.declared.refusal.Refusal.{Refusal}
+use Rattle.delays.specs.declared.Figures.{Figures}
 
 -- k is the least number with Pr × N ≤ 1,000,000 × k.
 pub record Rank (pr n k : ℕ) : Type 0 where
@@ -17,9 +17,9 @@ pub record Rank (pr n k : ℕ) : Type 0 where
   pub first : million * k < pr * n + million
 
 -- Each is met when it is at or below its objective.
-abbrev pub answered : Settings → ℕ → ℕ → Outcome
+abbrev pub answered : Settings → ℕ → ℕ → Result Figures Refusal
 answered v d r =
-    Outcome.Answered
+    Ok
     (record {
       percentile = d;
       range = r;
@@ -27,23 +27,23 @@ answered v d r =
       range_met = leb r v.range;
     })
 
-abbrev pub pick : Bool → Outcome → Outcome → Outcome
+abbrev pub pick : Bool → Result Figures Refusal → Result Figures Refusal → Result Figures Refusal
 pick true a b = a
 pick false a b = b
 
 -- FULL over 1,000,000 delays; FIELD at the first delay too large; else the answer.
-unfoldable pub judged : Settings → List ℕ → Outcome
+unfoldable pub judged : Settings → List ℕ → Result Figures Refusal
 judged v xs =
     pick (leb (length xs) delays)
     (pick (ltb (place_above largest_delay xs) (length xs))
-    (Outcome.Refused (refusal Fault.Field (place_above largest_delay xs)))
+    (Err (refusal Fault.Field (place_above largest_delay xs)))
     (answered v (percentile v.percentile xs) (range v.percentile xs)))
-    (Outcome.Refused (refusal Fault.Full 0))
+    (Err (refusal Fault.Full 0))
 
-abbrev pub with_settings : SettingsRead → List ℕ → Outcome
-with_settings (SettingsRead.Valid v) xs = judged v xs
-with_settings SettingsRead.Invalid xs = Outcome.Refused (refusal Fault.Settings 0)
+abbrev pub with_settings : Option Settings → List ℕ → Result Figures Refusal
+with_settings (Some v) xs = judged v xs
+with_settings None xs = Err (refusal Fault.Settings 0)
 
 -- SETTINGS first.
-unfoldable pub outcome : List ℕ → List ℕ → Outcome
+unfoldable pub outcome : List ℕ → List ℕ → Result Figures Refusal
 outcome s xs = with_settings (settings_of s) xs

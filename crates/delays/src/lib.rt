@@ -1,7 +1,7 @@
 // Percentile delay and range over a lent list of delays. The list is read, and neither sorted, copied nor changed.
 #![tactic(auto)]
 
-ghost use Rattle.std.specs.Prelude.{◌≡◌, ◌<◌, ◌≤◌};
+ghost use Rattle.std.specs.Prelude.{◌≡◌, ◌<◌, ◌≤◌, Ok};
 ghost use Rattle.numbers.specs.Limits.{delays, million};
 ghost use Rattle.percentile.specs.Percentile.{place_above};
 ghost use Rattle.delays.specs.Outcome.{Rank, answered, judged, outcome};
@@ -9,7 +9,7 @@ ghost use Rattle.delays.specs.Outcome.{Rank, answered, judged, outcome};
 use numbers::limits;
 use numbers::refusal::{Fault, Refusal};
 use percentile::few;
-use settings::{Settings, SettingsRead};
+use settings::Settings;
 
 // The percentile delay and the range, in ns, and whether each is at or below its objective.
 #[derive(Clone, Copy)]
@@ -20,25 +20,11 @@ pub struct Figures {
     pub range_met: bool,
 }
 
-// What the operation gives.
-#[derive(Clone, Copy)]
-pub enum Outcome {
-    Refused(Refusal),
-    Answered(Figures),
-}
-
 // The place of the first delay above `largest`, or the length where none is.
 fn place_above(list: &[u32], largest: u32) -> usize
     ensures { result ≡ place_above largest list.now }
 {
-    let mut i = 0;
-    while i < list.len() {
-        if largest < list[i] {
-            return i;
-        }
-        i += 1;
-    }
-    i
+    list.iter().position(|&x| largest < x).unwrap_or(list.len())
 }
 
 // How many delays must be at or below the percentile: the least k with pr × n ≤ 1,000,000 × k.
@@ -51,55 +37,44 @@ fn rank(pr: u32, n: usize) -> u32
 }
 
 // The answer, judged by the settings.
-fn answer(v: Settings, percentile: u32, range: u32) -> Outcome
-    ensures { result ≡ answered v percentile range }
+fn answer(v: Settings, percentile: u32, range: u32) -> Figures
+    ensures { Ok result ≡ answered v percentile range }
 {
-    Outcome::Answered(Figures {
+    Figures {
         percentile,
         range,
         percentile_met: percentile <= v.delay,
         range_met: range <= v.range,
-    })
+    }
 }
 
 // What valid settings say of a list.
-fn judge(v: Settings, list: &[u32]) -> Outcome
+fn judge(v: Settings, list: &[u32]) -> Result<Figures, Refusal>
     requires { (1 ≤ v.percentile) × (v.percentile ≤ million) }
     ensures { result ≡ judged v list.now }
 {
     if limits::DELAYS < list.len() {
-        return Outcome::Refused(Refusal {
-            fault: Fault::Full,
-            place: 0,
-        });
+        return Err(Fault::Full.at(0));
     }
     if list.len() == 0 {
-        return answer(v, 0, 0);
+        return Ok(answer(v, 0, 0));
     }
     let k = rank(v.percentile, list.len());
     let p = few::choose(list, k);
     let s = few::survey(list, limits::LARGEST_DELAY, p);
     if (s.within as usize) < list.len() {
         let at = place_above(list, limits::LARGEST_DELAY);
-        return Outcome::Refused(Refusal {
-            fault: Fault::Field,
-            place: at as u64,
-        });
+        return Err(Fault::Field.at(at as u64));
     }
     let d = few::ranked(list, p, s, k);
-    answer(v, d, d - s.least)
+    Ok(answer(v, d, d - s.least))
 }
 
 // The percentile delay and the range of a list of delays, or the refusal: SETTINGS; FULL over 1,000,000 delays; FIELD at the
 // first delay above the largest.
-pub fn delays(settings: &[u8], list: &[u32]) -> Outcome
+pub fn delays(settings: &[u8], list: &[u32]) -> Result<Figures, Refusal>
     ensures { result ≡ outcome settings.now list.now }
 {
-    let SettingsRead::Valid(v) = settings::read(settings) else {
-        return Outcome::Refused(Refusal {
-            fault: Fault::Settings,
-            place: 0,
-        });
-    };
+    let v = settings::read(settings).ok_or(Fault::Settings)?;
     judge(v, list)
 }

@@ -8,22 +8,19 @@ use mathlib.Core.List.{List, [], ◌∷◌, ◌++◌, map}
 use Prim.Native.Nat.{ℕ, ◌+◌, ◌*◌, ◌/◌, ◌≤◌}
 use native.Mathlib.Omega.{arith}
 use lib.ListN.{length, length-map}
+use Rattle.std.specs.Prelude.{Some, Ok}
 use Rattle.numbers.specs.Limits.{pairs}
 use Rattle.settings.specs.Settings.{settings_of}
 use Rattle.settings.specs.declared.LabelSettings.{LabelSettings}
 use Rattle.settings.specs.declared.Settings.{Settings}
-use Rattle.settings.specs.declared.SettingsRead.{SettingsRead}
 use Rattle.tallies.specs.Report.{Labelled}
 use Rattle.verdicts.specs.Sets.{of_sets}
 use Rattle.summaries.specs.Stored.{summary_bytes}
-use Rattle.making.specs.declared.Made.{Made}
 use Rattle.periods.specs.Stretches.{made_bytes, bytes_held}
 use Rattle.reports.specs.Circuits.{three_bytes, set_bytes, defined}
 use Rattle.reports.specs.Three.{report_of}
-use Rattle.reports.specs.declared.Reported.{Reported}
 use Rattle.reports.proofs.Defined as reports
 use Rattle.sets.specs.Sets.{judged_of, defined_verdicts}
-use Rattle.sets.specs.declared.Judged.{Judged}
 use Rattle.sets.proofs.Defined as sets
 use Rattle.demands.specs.Cuts.{Cut, uncut, BetweenRecords, Under, behind, SummaryCalled, Gives, NoneRefused}
 use Rattle.demands.specs.Pairs.{Pair, held, circuit_of, Known, PairGives, AllKnown, AllGive}
@@ -31,8 +28,8 @@ use Rattle.demands.proofs.AnyCut.{summary_at, Sound, sound_facts, held_many, hel
 
 -- Where `summary` takes the records of the uncut sequence, every cut and every grouping of them gives its bytes, and no call on the way is refused.
 pub any_cut :
-    (settings : List ℕ) (v : Settings) → settings_of settings ≡ SettingsRead.Valid v → (first : ℕ) (c : Cut) → BetweenRecords c → Under v.label c →
-    (whole : List ℕ) (w : SummaryCalled settings first (uncut c) whole) → w.answer ≡ Made.Written → (bytes : List ℕ) (g : Gives first c bytes) → (bytes ≡ whole) × NoneRefused first c bytes g
+    (settings : List ℕ) (v : Settings) → settings_of settings ≡ Some v → (first : ℕ) (c : Cut) → BetweenRecords c → Under v.label c →
+    (whole : List ℕ) (w : SummaryCalled settings first (uncut c) whole) → w.answer ≡ Ok tt → (bytes : List ℕ) (g : Gives first c bytes) → (bytes ≡ whole) × NoneRefused first c bytes g
 any_cut settings v read first c cuts under whole w written bytes g =
     let sound = taken settings first (uncut c) (length w.out) w.at (sym written ∙ w.contract.answered) in
     let n = uncut_whole c cuts in
@@ -119,7 +116,7 @@ module _ (l : LabelSettings) (x : Pair) (h : Known l x) where
       }
 
   -- The report on before, period and after, each of them cut and grouped in any way, is the definition's, by whatever labels are those of all the intervals.
-  pub report_of_cuts : (bytes : List ℕ) → PairGives x bytes → report_of bytes ≡ Reported.Answered (defined l (circuit_of x))
+  pub report_of_cuts : (bytes : List ℕ) → PairGives x bytes → report_of bytes ≡ Ok (defined l (circuit_of x))
   report_of_cuts bytes g =
       ap report_of (pair_bytes bytes g) ∙ reports.report_defined l (under_valid l x.before h.before_under) (circuit_of x) pair_sound
 
@@ -138,8 +135,8 @@ set_sound l (x ∷ xs) h = (pair_sound l x h.0, set_sound l xs h.1)
 
 -- The verdicts on a set of such pairs are the definition's, one pair after the other.
 pub verdicts_of_cuts :
-    (settings : List ℕ) (v : Settings) → settings_of settings ≡ SettingsRead.Valid v → (xs : List Pair) → AllKnown v.label xs → 1 ≤ length xs → length xs ≤ pairs →
-    (bytes : List ℕ) → AllGive xs bytes → judged_of settings (length xs) bytes ≡ Judged.Answered (of_sets (map (defined_verdicts v) (map circuit_of xs)))
+    (settings : List ℕ) (v : Settings) → settings_of settings ≡ Some v → (xs : List Pair) → AllKnown v.label xs → 1 ≤ length xs → length xs ≤ pairs →
+    (bytes : List ℕ) → AllGive xs bytes → judged_of settings (length xs) bytes ≡ Ok (of_sets (map (defined_verdicts v) (map circuit_of xs)))
 verdicts_of_cuts settings v read xs h some few bytes g =
     let n : length (map circuit_of xs) ≡ length xs = length-map xs circuit_of in
     ap (judged_of settings (length xs)) (set_bytes_lem v.label xs h bytes g)

@@ -1,15 +1,13 @@
 -- A circuit's interval records, cut anywhere, summarised stretch by stretch without knowing what came before, and joined in any grouping: what a caller of `summary` and `join` does, each
 -- call with a buffer and an offset of its own, and with nothing known of it but its contract.
-use Rattle.std.specs.Prelude.{ℕ, ◌+◌, ◌*◌, ◌/◌, ◌≡◌, true, List, ◌++◌, length, take, drop}
+use Rattle.std.specs.Prelude.{ℕ, ◌+◌, ◌*◌, ◌/◌, ◌≡◌, true, List, ◌++◌, length, take, drop, Some, Result, Ok}
 use Rattle.numbers.specs.Room.{has_room}
 use Rattle.settings.specs.Settings.{settings_of}
 use Rattle.settings.specs.declared.LabelSettings.{LabelSettings}
 use Rattle.settings.specs.declared.Settings.{Settings}
-use Rattle.settings.specs.declared.SettingsRead.{SettingsRead}
 use Rattle.making.specs.Making as making
-use Rattle.making.specs.declared.Made.{Made}
 use Rattle.joining.specs.Joining as joining
-use Rattle.joining.specs.declared.Joined.{Joined}
+use Rattle.numbers.specs.declared.refusal.Refusal.{Refusal}
 
 -- the bytes of some records, or of none, and the settings under which they are summarised; or two such that are to be joined, the second behind the first
 pub data Cut : Type 0 where
@@ -28,7 +26,7 @@ BetweenRecords (group a b) = BetweenRecords a × BetweenRecords b
 
 -- each stretch is summarised under valid settings that have the label settings l; their objectives may differ
 unfoldable pub Under : LabelSettings → Cut → Type 0
-Under l (stretch settings s) = (v : Settings) × (settings_of settings ≡ SettingsRead.Valid v) × (v.label ≡ l)
+Under l (stretch settings s) = (v : Settings) × (settings_of settings ≡ Some v) × (v.label ≡ l)
 Under l (group a b) = Under l a × Under l b
 
 -- the number after the last, of the records s from the number `first` on
@@ -44,7 +42,7 @@ pub record SummaryCalled (settings : List ℕ) (first : ℕ) (s bytes : List ℕ
   pub out : List ℕ
   pub at : ℕ
   pub room : has_room (length out) at 1024 ≡ true
-  pub answer : Made
+  pub answer : Result (Unit {0}) Refusal
   pub after : List ℕ
   pub contract : making.Outcome settings first s out at answer after
   pub there : bytes ≡ record_in after at
@@ -54,7 +52,7 @@ pub record JoinCalled (left right bytes : List ℕ) : Type 0 where
   pub out : List ℕ
   pub at : ℕ
   pub room : has_room (length out) at 1024 ≡ true
-  pub answer : Joined
+  pub answer : Result (Unit {0}) Refusal
   pub after : List ℕ
   pub contract : joining.Outcome left right out at answer after
   pub there : bytes ≡ record_in after at
@@ -68,5 +66,5 @@ Gives first (group a b) bytes =
 -- and none of the calls is refused
 unfoldable pub NoneRefused : (first : ℕ) (c : Cut) (bytes : List ℕ) → Gives first c bytes → Type 0
 unfolding Gives
-NoneRefused first (stretch settings s) bytes g = g.answer ≡ Made.Written
-NoneRefused first (group a b) bytes g = NoneRefused first a g.0 g.2 × NoneRefused (behind first (uncut a)) b g.1 g.3 × (g.4.answer ≡ Joined.Written)
+NoneRefused first (stretch settings s) bytes g = g.answer ≡ Ok tt
+NoneRefused first (group a b) bytes g = NoneRefused first a g.0 g.2 × NoneRefused (behind first (uncut a)) b g.1 g.3 × (g.4.answer ≡ Ok tt)

@@ -1,10 +1,9 @@
 -- An ordered pair as it is known: its records before the period, in it and behind it, each of the three cut and grouped in a way of its own. The three summaries that come of them, one behind
 -- the other, are what `report` takes, and those of several pairs what `verdicts` takes.
-use Rattle.std.specs.Prelude.{ℕ, ◌≡◌, List, [], ◌∷◌, ◌++◌}
+use Rattle.std.specs.Prelude.{ℕ, ◌≡◌, List, [], ◌∷◌, ◌++◌, Ok}
 use Rattle.settings.specs.declared.LabelSettings.{LabelSettings}
 use Rattle.intervals.specs.Sequence.{intervals_in, checked}
 use Rattle.intervals.specs.declared.Interval.{Interval}
-use Rattle.intervals.specs.declared.Sequence.{Sequence}
 use Rattle.rule.specs.Labels.{Label}
 use Rattle.labels.specs.Stretch.{intervals_of}
 use Rattle.tallies.specs.Report.{Labelled}
@@ -45,7 +44,7 @@ pub record Known (l : LabelSettings) (x : Pair) : Type 0 where
   pub before_under : Under l x.before
   pub period_under : Under l x.period
   pub after_under : Under l x.after
-  pub checks : checked 0 0 (intervals_in (all_of x)) ≡ Sequence.Sound
+  pub checks : checked 0 0 (intervals_in (all_of x)) ≡ Ok tt
   pub labelled : Labelled l (held (all_of x)) x.loss x.composite
 
 -- the three summaries

@@ -10,6 +10,7 @@ use native.Mathlib.Omega.{arith}
 use lib.Dec.{eqb}
 use lib.ListN.{length, length-map, length-append}
 use borrow.Author.Tests.{eq-eqb, eqb-true, le-leb}
+use Rattle.std.specs.Prelude.{Option, Some, None, Result, Ok, Err}
 use Rattle.numbers.specs.Limits.{intervals}
 use Rattle.numbers.specs.Refusals.{refusal}
 use Rattle.numbers.specs.declared.refusal.Fault.{Fault}
@@ -17,11 +18,9 @@ use Rattle.numbers.proofs.Rules.{rule_met}
 use Rattle.settings.specs.Settings.{label_meets, settings_of}
 use Rattle.settings.specs.declared.LabelSettings.{LabelSettings}
 use Rattle.settings.specs.declared.Settings.{Settings}
-use Rattle.settings.specs.declared.SettingsRead.{SettingsRead}
 use Rattle.settings.proofs.SettingsRecord.{label_valid}
 use Rattle.intervals.specs.Interval.{interval_of, interval_rules}
 use Rattle.intervals.specs.declared.Interval.{Interval}
-use Rattle.intervals.specs.declared.IntervalRead.{IntervalRead}
 use Rattle.intervals.proofs.IntervalRecord.{interval_read, interval_valid}
 use Rattle.rule.specs.Evaluator.{fresh, turn, run, Possible, reachable}
 use Rattle.rule.specs.declared.Track.{Track}
@@ -29,12 +28,11 @@ use Rattle.rule.proofs.Labelling.{Settles, steps_settle, run_step}
 use Rattle.rule.proofs.Reaching.{possible_reachable, reachable_possible}
 use Rattle.labels.specs.Marked.{loss_mark, composite_mark}
 use Rattle.evaluator.specs.Evaluators.{label_of, loss_of, composite_of, track_of, held_of, word_of, held, evaluator_rules, evaluator_meets, which, settled_by, answer_of, fed_with, start_of, step_with, step_of}
-use Rattle.evaluator.specs.declared.Answer.{Answer}
 use Rattle.evaluator.specs.declared.Evaluator.{Evaluator}
 use Rattle.evaluator.specs.declared.Settled.{Settled}
-use Rattle.evaluator.specs.declared.Started.{Started}
-use Rattle.evaluator.specs.declared.Stepped.{Stepped}
 use Rattle.evaluator.proofs.Words.{EvaluatorValid, evaluator_rules_lem}
+use Rattle.numbers.specs.declared.refusal.Refusal.{Refusal}
+use Rattle.rule.specs.declared.Both.{Both}
 
 -- the tracks that the intervals fed leave
 abbrev pub loss_after : LabelSettings → List Interval → Track
@@ -48,7 +46,7 @@ abbrev pub after : LabelSettings → List Interval → Evaluator
 after l vs = held l (length vs) (loss_after l vs) (composite_after l vs)
 
 -- it starts with nothing fed
-pub starts : (s : List ℕ) (v : Settings) → settings_of s ≡ SettingsRead.Valid v → start_of s ≡ Started.Ready (after v.label [])
+pub starts : (s : List ℕ) (v : Settings) → settings_of s ≡ Some v → start_of s ≡ Ok (after v.label [])
 unfolding start_of run
 starts s v e = rw e
 
@@ -97,9 +95,9 @@ answers : (n : ℕ) (ms : List Bool) (m : Bool) → 1 ≤ n → Answers n ms m (
 answers n ms m p = record { settles = steps_settle n ms p m; which_label = refl }
 
 -- a step feeds the next interval, and answers on both tracks what the definition settles
-pub record Steps (l : LabelSettings) (vs : List Interval) (v : Interval) (s : Stepped) : Type 0 where
-  pub answer : Answer
-  pub is_fed : s ≡ Stepped.Fed (after l (vs ++ (v ∷ []))) answer
+pub record Steps (l : LabelSettings) (vs : List Interval) (v : Interval) (s : Result (Evaluator × Both Settled) Refusal) : Type 0 where
+  pub answer : Both Settled
+  pub is_fed : s ≡ Ok (after l (vs ++ (v ∷ [])), answer)
   pub on_loss : Answers l.n (map (loss_mark l) vs) (loss_mark l v) answer.loss
   pub on_composite : Answers l.n (map (composite_mark l) vs) (composite_mark l v) answer.composite
 
@@ -114,8 +112,8 @@ fed_after l vs v =
     rw (length-append vs (v ∷ []), map_last (loss_mark l) vs v, map_last (composite_mark l) vs v, run_step l.n (map (loss_mark l) vs) (loss_mark l v), run_step l.n (map (composite_mark l) vs) (composite_mark l v))
 
 step_fed :
-    (l : LabelSettings) (vs : List Interval) (r : List ℕ) (v : Interval) → label_meets l ≡ true → interval_of r ≡ IntervalRead.Valid v → v.number ≡ length vs →
-    step_of (after l vs) r ≡ Stepped.Fed (after l (vs ++ (v ∷ []))) (answer_of (record { label = l; loss = loss_after l vs; composite = composite_after l vs }) v)
+    (l : LabelSettings) (vs : List Interval) (r : List ℕ) (v : Interval) → label_meets l ≡ true → interval_of r ≡ Some v → v.number ≡ length vs →
+    step_of (after l vs) r ≡ Ok (after l (vs ++ (v ∷ [])), answer_of (record { label = l; loss = loss_after l vs; composite = composite_after l vs }) v)
 unfolding step_of interval_rules
 step_fed l vs r v h e n =
     let whole : length r ≡ 48 = eqb-true _ _ (rule_met (interval_rules r) 0 (interval_read r v e).0) in
@@ -123,7 +121,7 @@ step_fed l vs r v h e n =
     rw (eq-eqb _ _ whole, after_valid l vs h most, e, eq-eqb _ _ n, held_after l vs, fed_after l vs v)
 
 pub steps :
-    (l : LabelSettings) (vs : List Interval) (r : List ℕ) (v : Interval) → label_meets l ≡ true → interval_of r ≡ IntervalRead.Valid v → v.number ≡ length vs →
+    (l : LabelSettings) (vs : List Interval) (r : List ℕ) (v : Interval) → label_meets l ≡ true → interval_of r ≡ Some v → v.number ≡ length vs →
     Steps l vs v (step_of (after l vs) r)
 unfolding answer_of
 steps l vs r v h e n =
@@ -168,9 +166,9 @@ follows n fed t m some h =
     }
 
 -- what a step that is not refused found and leaves
-pub record Accepted (e : Evaluator) (r : List ℕ) (next : Evaluator) (answer : Answer) : Type 0 where
+pub record Accepted (e : Evaluator) (r : List ℕ) (next : Evaluator) (answer : Both Settled) : Type 0 where
   pub interval : Interval
-  pub is_read : interval_of r ≡ IntervalRead.Valid interval
+  pub is_read : interval_of r ≡ Some interval
   pub is_next : interval.number ≡ e.fed
   pub settings : label_meets (label_of e) ≡ true
   pub settings_kept : label_of next ≡ label_of e
@@ -180,27 +178,29 @@ pub record Accepted (e : Evaluator) (r : List ℕ) (next : Evaluator) (answer : 
 
 -- every test of a step that is not refused was passed
 
-module _ (e next : Evaluator) (answer : Answer) where
+module _ (e next : Evaluator) (answer : Both Settled) where
   passed_number :
       (v : Interval) (is_next : Bool) →
-      cond is_next (Stepped.Fed (fed_with (held_of e) e.fed v) (answer_of (held_of e) v)) (Stepped.Refused (refusal Fault.Order 0)) ≡ Stepped.Fed next answer →
+      cond {A = Result (Evaluator × Both Settled) Refusal} is_next (Ok (fed_with (held_of e) e.fed v, answer_of (held_of e) v)) (Err (refusal Fault.Order 0)) ≡ Ok (next, answer) →
       (is_next ≡ true) × (fed_with (held_of e) e.fed v ≡ next) × (answer_of (held_of e) v ≡ answer)
-  passed_number v true h = (refl, (cc), (cc))
+  passed_number v true h =
+      let same : ◌≡◌ {A = Evaluator × Both Settled} (fed_with (held_of e) e.fed v, answer_of (held_of e) v) (next, answer) = cc in
+      (refl, ap (λ (p : Evaluator × Both Settled). p.0) same, ap (λ (p : Evaluator × Both Settled). p.1) same)
   passed_number v false h = let z : ◌≡◌ {A = ℕ} 0 1 = cc in absurd (omega arith)
 
   passed :
-      (whole valid : Bool) (i : IntervalRead) →
-      cond whole (cond valid (step_with e i) (Stepped.Refused (refusal Fault.Field 0))) (Stepped.Refused (refusal Fault.Length 0)) ≡ Stepped.Fed next answer →
-      (valid ≡ true) × (v : Interval) × (i ≡ IntervalRead.Valid v) × (eqb v.number e.fed ≡ true) × (fed_with (held_of e) e.fed v ≡ next) × (answer_of (held_of e) v ≡ answer)
+      (whole valid : Bool) (i : Option Interval) →
+      cond whole (cond valid (step_with e i) (Err (refusal Fault.Field 0))) (Err (refusal Fault.Length 0)) ≡ Ok (next, answer) →
+      (valid ≡ true) × (v : Interval) × (i ≡ Some v) × (eqb v.number e.fed ≡ true) × (fed_with (held_of e) e.fed v ≡ next) × (answer_of (held_of e) v ≡ answer)
   passed false valid i h = let z : ◌≡◌ {A = ℕ} 0 1 = cc in absurd (omega arith)
   passed true false i h = let z : ◌≡◌ {A = ℕ} 0 1 = cc in absurd (omega arith)
-  passed true true IntervalRead.Invalid h = let z : ◌≡◌ {A = ℕ} 0 1 = cc in absurd (omega arith)
-  passed true true (IntervalRead.Valid v) h =
+  passed true true None h = let z : ◌≡◌ {A = ℕ} 0 1 = cc in absurd (omega arith)
+  passed true true (Some v) h =
       let t = passed_number v (eqb v.number e.fed) h in
       (refl, v, refl, t.0, t.1, t.2)
 
 -- so both tracks follow
-accepted : (e : Evaluator) (r : List ℕ) (v : Interval) → evaluator_meets e ≡ true → interval_of r ≡ IntervalRead.Valid v → v.number ≡ e.fed → Accepted e r (fed_with (held_of e) e.fed v) (answer_of (held_of e) v)
+accepted : (e : Evaluator) (r : List ℕ) (v : Interval) → evaluator_meets e ≡ true → interval_of r ≡ Some v → v.number ≡ e.fed → Accepted e r (fed_with (held_of e) e.fed v) (answer_of (held_of e) v)
 unfolding fed_with answer_of
 accepted e r v valid read number =
     let settings : label_meets (label_of e) ≡ true = (evaluator_rules_lem e valid).settings in
@@ -219,7 +219,7 @@ accepted e r v valid read number =
     }
 
 -- a step that is not refused answers by the definition, on every evaluator
-pub steps_accepted : (e : Evaluator) (r : List ℕ) (next : Evaluator) (answer : Answer) → step_of e r ≡ Stepped.Fed next answer → Accepted e r next answer
+pub steps_accepted : (e : Evaluator) (r : List ℕ) (next : Evaluator) (answer : Both Settled) → step_of e r ≡ Ok (next, answer) → Accepted e r next answer
 unfolding step_of
 steps_accepted e r next answer h =
     let t = passed e next answer (eqb (length r) 48) (evaluator_meets e) (interval_of r) h in

@@ -10,18 +10,16 @@ use native.Mathlib.Nat.{mod-eq_of_lt}
 use lib.Dec.{leb, ltb}
 use lib.ListN.{get_or, length}
 use borrow.Author.Tests.{leb-true, ltb-true, lt-ltb}
+use Rattle.std.specs.Prelude.{Some, None}
 use Rattle.numbers.specs.Limits.{intervals, million, largest_delay}
 use Rattle.settings.specs.Settings.{label_meets}
 use Rattle.settings.specs.declared.LabelSettings.{LabelSettings}
 use Rattle.intervals.specs.Interval.{interval_of}
 use Rattle.intervals.specs.declared.Interval.{Interval}
-use Rattle.intervals.specs.declared.IntervalRead.{IntervalRead}
 use Rattle.rule.specs.Evaluator.{reachable}
 use Rattle.evaluator.specs.Evaluators.{label_of, loss_of, composite_of, held_of, evaluator_rules, evaluator_meets, fit_rules, fits_words, narrow_of, label_read, held_read}
 use Rattle.evaluator.specs.declared.Evaluator.{Evaluator}
 use Rattle.evaluator.specs.declared.Held.{Held}
-use Rattle.evaluator.specs.declared.HeldRead.{HeldRead}
-use Rattle.evaluator.specs.declared.LabelRead.{LabelRead}
 use Rattle.rule.proofs.Reaching.{reached}
 use Rattle.numbers.proofs.Rules.{rule_met}
 use Rattle.settings.proofs.SettingsRecord.{LabelValid, label_valid}
@@ -57,7 +55,7 @@ meets_fits e h =
     )
 
 -- so the test on the words cut down is the test on the words
-pub label_words : (t : Bool) (e : Evaluator) {l : LabelSettings} {a b : Bool} → l ≡ narrow_of e → a ≡ fits_words e → b ≡ label_meets l → (a && b) ≡ t → cond t (LabelRead.Valid l) LabelRead.Invalid ≡ label_read e
+pub label_words : (t : Bool) (e : Evaluator) {l : LabelSettings} {a b : Bool} → l ≡ narrow_of e → a ≡ fits_words e → b ≡ label_meets l → (a && b) ≡ t → cond t (Some l) None ≡ label_read e
 unfolding label_read
 label_words true e {l} {a} {b} p q r s =
     let same : l ≡ label_of e = p ∙ narrow_same e (sym q ∙ ((and-eq-true_iff a b).0 s).0) in
@@ -65,7 +63,7 @@ label_words true e {l} {a} {b} p q r s =
     rw (meets, same)
 label_words false e {l} {a} {b} p q r s = by (label_meets (label_of e)) refl
   where
-    by : (z : Bool) → label_meets (label_of e) ≡ z → LabelRead.Invalid ≡ label_read e
+    by : (z : Bool) → label_meets (label_of e) ≡ z → None ≡ label_read e
     by false h = rw h
     by true h =
         let fits : fits_words e ≡ true = meets_fits e h in
@@ -74,51 +72,51 @@ label_words false e {l} {a} {b} p q r s = by (label_meets (label_of e)) refl
         absurd (false≢true (sym no))
 
 -- what was read as valid settings is valid and is what the words say
-label_told : (e : Evaluator) (l : LabelSettings) → label_read e ≡ LabelRead.Valid l → (label_meets (label_of e) ≡ true) × (l ≡ label_of e)
+label_told : (e : Evaluator) (l : LabelSettings) → label_read e ≡ Some l → (label_meets (label_of e) ≡ true) × (l ≡ label_of e)
 unfolding label_read
 label_told e l h = by (label_meets (label_of e)) h
   where
-    by : (z : Bool) → cond z (LabelRead.Valid (label_of e)) LabelRead.Invalid ≡ LabelRead.Valid l → (z ≡ true) × (l ≡ label_of e)
+    by : (z : Bool) → cond z (Some (label_of e)) None ≡ Some l → (z ≡ true) × (l ≡ label_of e)
     by true p = (refl, cc)
     by false p = (cc, cc)
 
-label_not : (e : Evaluator) → label_read e ≡ LabelRead.Invalid → label_meets (label_of e) ≡ false
+label_not : (e : Evaluator) → label_read e ≡ None → label_meets (label_of e) ≡ false
 unfolding label_read
 label_not e h = by (label_meets (label_of e)) h
   where
-    by : (z : Bool) → cond z (LabelRead.Valid (label_of e)) LabelRead.Invalid ≡ LabelRead.Invalid → z ≡ false
+    by : (z : Bool) → cond z (Some (label_of e)) None ≡ None → z ≡ false
     by true p = cc
     by false p = refl
 
 -- the whole evaluator, from its label settings on
 pub held_words :
-    (t : Bool) (e : Evaluator) (l : LabelSettings) {a b : Bool} → label_read e ≡ LabelRead.Valid l →
+    (t : Bool) (e : Evaluator) (l : LabelSettings) {a b : Bool} → label_read e ≡ Some l →
     a ≡ reachable e.n e.fed (loss_of e) → b ≡ reachable e.n e.fed (composite_of e) →
     (leb e.fed intervals && leb e.loss_label 1 && leb e.composite_label 1 && a && b) ≡ t →
-    cond t (HeldRead.Valid (record { label = l; loss = loss_of e; composite = composite_of e })) HeldRead.Invalid ≡ held_read e
+    cond t (Some (record { label = l; loss = loss_of e; composite = composite_of e })) None ≡ held_read e
 unfolding held_read evaluator_meets evaluator_rules
 held_words t e l p q r s =
     let k : (label_meets (label_of e) ≡ true) × (l ≡ label_of e) = label_told e l p in
     rw (k.0, k.1, ← q, ← r, s)
 
-pub held_not : (e : Evaluator) → label_read e ≡ LabelRead.Invalid → HeldRead.Invalid ≡ held_read e
+pub held_not : (e : Evaluator) → label_read e ≡ None → None ≡ held_read e
 unfolding held_read evaluator_meets evaluator_rules
 held_not e h = rw (label_not e h)
 
 -- what was read as a valid evaluator is valid and is what the words say
-pub held_valid : (e : Evaluator) (h : Held) → held_read e ≡ HeldRead.Valid h → (evaluator_meets e ≡ true) × (h ≡ held_of e)
+pub held_valid : (e : Evaluator) (h : Held) → held_read e ≡ Some h → (evaluator_meets e ≡ true) × (h ≡ held_of e)
 unfolding held_read
 held_valid e h p = by (evaluator_meets e) p
   where
-    by : (z : Bool) → cond z (HeldRead.Valid (held_of e)) HeldRead.Invalid ≡ HeldRead.Valid h → (z ≡ true) × (h ≡ held_of e)
+    by : (z : Bool) → cond z (Some (held_of e)) None ≡ Some h → (z ≡ true) × (h ≡ held_of e)
     by true p = (refl, cc)
     by false p = (cc, cc)
 
-pub held_invalid : (e : Evaluator) → held_read e ≡ HeldRead.Invalid → evaluator_meets e ≡ false
+pub held_invalid : (e : Evaluator) → held_read e ≡ None → evaluator_meets e ≡ false
 unfolding held_read
 held_invalid e p = by (evaluator_meets e) p
   where
-    by : (z : Bool) → cond z (HeldRead.Valid (held_of e)) HeldRead.Invalid ≡ HeldRead.Invalid → z ≡ false
+    by : (z : Bool) → cond z (Some (held_of e)) None ≡ None → z ≡ false
     by true p = cc
     by false p = refl
 
@@ -148,7 +146,7 @@ evaluator_rules_lem e h =
 
 -- a valid evaluator and its next interval: all that feeding asks for. The number fed is that of a valid record
 pub feedable :
-    (e : Evaluator) (h : Held) (s : List ℕ) (v : Interval) → held_read e ≡ HeldRead.Valid h → interval_of s ≡ IntervalRead.Valid v → v.number ≡ e.fed →
+    (e : Evaluator) (h : Held) (s : List ℕ) (v : Interval) → held_read e ≡ Some h → interval_of s ≡ Some v → v.number ≡ e.fed →
     (label_meets h.label ≡ true) × (e.fed < intervals) × (h.loss.pending < h.label.n) × (h.composite.pending < h.label.n)
 feedable e h s v p q n =
     let k : (evaluator_meets e ≡ true) × (h ≡ held_of e) = held_valid e h p in

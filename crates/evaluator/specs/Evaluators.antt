@@ -1,28 +1,22 @@
 -- The running evaluator: what it holds, when it is valid, what a step answers, and each refusal in order.
-use Rattle.std.specs.Prelude.{Bool, true, false, cond, List, [], ◌∷◌, ℕ, ◌+◌, ◌%◌, leb, ltb, eqb, length}
+use Rattle.std.specs.Prelude.{Bool, true, false, cond, List, [], ◌∷◌, ℕ, ◌+◌, ◌%◌, leb, ltb, eqb, length, Option, Some, None, Result, Ok, Err}
 use Rattle.numbers.specs.Limits.{intervals}
 use Rattle.numbers.specs.Refusals.{refusal}
 use Rattle.numbers.specs.Rules.{all_met}
 use Rattle.numbers.specs.declared.refusal.Fault.{Fault}
 use Rattle.settings.specs.Settings.{label_meets, settings_of}
 use Rattle.settings.specs.declared.LabelSettings.{LabelSettings}
-use Rattle.settings.specs.declared.SettingsRead.{SettingsRead}
 use Rattle.intervals.specs.Interval.{interval_of}
 use Rattle.intervals.specs.declared.Interval.{Interval}
-use Rattle.intervals.specs.declared.IntervalRead.{IntervalRead}
 use Rattle.rule.specs.Evaluator.{fresh, gain, turn, reachable}
 use Rattle.rule.specs.declared.Track.{Track}
 use Rattle.labels.specs.Marked.{loss_mark, composite_mark}
-use Rattle.evaluator.specs.declared.Answer.{Answer}
 use Rattle.evaluator.specs.declared.Evaluator.{Evaluator}
 use Rattle.evaluator.specs.declared.Held.{Held}
-use Rattle.evaluator.specs.declared.HeldRead.{HeldRead}
-use Rattle.evaluator.specs.declared.LabelRead.{LabelRead}
-use Rattle.evaluator.specs.declared.Moved.{Moved}
 use Rattle.evaluator.specs.declared.Settled.{Settled}
-use Rattle.evaluator.specs.declared.Started.{Started}
-use Rattle.evaluator.specs.declared.Stepped.{Stepped}
-use Rattle.evaluator.specs.declared.Told.{Told}
+use Rattle.settings.specs.declared.Settings.{Settings}
+use Rattle.numbers.specs.declared.refusal.Refusal.{Refusal}
+use Rattle.rule.specs.declared.Both.{Both}
 
 -- its words: the label settings, and a label word, 1 for available and 0 for not, with the number pending, for each track
 abbrev pub label_of : Evaluator → LabelSettings
@@ -78,11 +72,11 @@ held l fed loss composite =
     }
 
 -- it starts from settings with nothing fed
-abbrev pub start_from : SettingsRead → Started
-start_from (SettingsRead.Valid v) = Started.Ready (held v.label 0 fresh fresh)
-start_from SettingsRead.Invalid = Started.Refused (refusal Fault.Settings 0)
+abbrev pub start_from : Option Settings → Result Evaluator Refusal
+start_from (Some v) = Ok (held v.label 0 fresh fresh)
+start_from None = Err (refusal Fault.Settings 0)
 
-unfoldable pub start_of : List ℕ → Started
+unfoldable pub start_of : List ℕ → Result Evaluator Refusal
 start_of s = start_from (settings_of s)
 
 -- what a step settles on a track: how many, and which label, 2 when none
@@ -92,7 +86,7 @@ which count m = cond (eqb count 0) 2 (word_of m)
 abbrev pub settled_by : ℕ → Track → Bool → Settled
 settled_by n t m = record { count = gain n t m; label = which (gain n t m) m }
 
-unfoldable pub answer_of : Held → Interval → Answer
+unfoldable pub answer_of : Held → Interval → Both Settled
 answer_of h v =
     record {
       loss = settled_by h.label.n h.loss (loss_mark h.label v);
@@ -107,31 +101,35 @@ fed_with h fed v =
     (turn h.label.n h.composite (composite_mark h.label v))
 
 -- a step: the length, the evaluator, the record's fields, its number
-abbrev pub step_with : Evaluator → IntervalRead → Stepped
-step_with e (IntervalRead.Valid v) =
-    cond (eqb v.number e.fed) (Stepped.Fed (fed_with (held_of e) e.fed v) (answer_of (held_of e) v)) (Stepped.Refused (refusal Fault.Order 0))
-step_with e IntervalRead.Invalid = Stepped.Refused (refusal Fault.Field 0)
+abbrev pub step_with : Evaluator → Option Interval → Result (Evaluator × Both Settled) Refusal
+step_with e (Some v) =
+    cond (eqb v.number e.fed) (Ok (fed_with (held_of e) e.fed v, answer_of (held_of e) v)) (Err (refusal Fault.Order 0))
+step_with e None = Err (refusal Fault.Field 0)
 
-unfoldable pub step_of : Evaluator → List ℕ → Stepped
+unfoldable pub step_of : Evaluator → List ℕ → Result (Evaluator × Both Settled) Refusal
 step_of e r =
     cond (eqb (length r) 48)
-    (cond (evaluator_meets e) (step_with e (interval_of r)) (Stepped.Refused (refusal Fault.Field 0)))
-    (Stepped.Refused (refusal Fault.Length 0))
+    (cond (evaluator_meets e) (step_with e (interval_of r)) (Err (refusal Fault.Field 0)))
+    (Err (refusal Fault.Length 0))
 
 -- the same with the evaluator left behind: a refusal leaves it as it was
-abbrev pub moved_to : Evaluator → Told → Moved
+pub record Moved : Type 0 where
+  pub evaluator : Evaluator
+  pub told : Result (Both Settled) Refusal
+
+abbrev pub moved_to : Evaluator → Result (Both Settled) Refusal → Moved
 moved_to e a = record { evaluator = e; told = a }
 
-abbrev pub moved_by : Evaluator → Stepped → Moved
-moved_by e (Stepped.Fed next a) = moved_to next (Told.Settled a)
-moved_by e (Stepped.Refused x) = moved_to e (Told.Refused x)
+abbrev pub moved_by : Evaluator → Result (Evaluator × Both Settled) Refusal → Moved
+moved_by e (Ok (next, a)) = moved_to next (Ok a)
+moved_by e (Err x) = moved_to e (Err x)
 
 abbrev pub moved_of : Evaluator → List ℕ → Moved
 moved_of e r = moved_by e (step_of e r)
 
 -- what its words say, taken apart: the label settings, if they are valid; and with them both tracks, if all of it is valid
-unfoldable pub label_read : Evaluator → LabelRead
-label_read e = cond (label_meets (label_of e)) (LabelRead.Valid (label_of e)) LabelRead.Invalid
+unfoldable pub label_read : Evaluator → Option LabelSettings
+label_read e = cond (label_meets (label_of e)) (Some (label_of e)) None
 
 -- words that fit the fields of label settings, and words cut down to those fields
 unfoldable pub fit_rules : Evaluator → List Bool
@@ -162,6 +160,6 @@ narrow_of e =
       jt = e.jt % 4294967296;
     }
 
-unfoldable pub held_read : Evaluator → HeldRead
+unfoldable pub held_read : Evaluator → Option Held
 held_read e =
-    cond (evaluator_meets e) (HeldRead.Valid (held_of e)) HeldRead.Invalid
+    cond (evaluator_meets e) (Some (held_of e)) None

@@ -6,12 +6,12 @@ ghost use Rattle.numbers.specs.Limits.{intervals};
 ghost use Rattle.settings.specs.Settings.{label_meets};
 ghost use Rattle.evaluator.specs.Evaluators.{held, word_of, which, start_of, step_of, label_read, fits_words, narrow_of, held_read, fed_with, answer_of, moved_to, moved_of};
 
-use intervals::{Interval, IntervalRead};
+use intervals::Interval;
 use labels::marks;
 use numbers::limits;
 use numbers::refusal::{Fault, Refusal};
-use rule::Track;
-use settings::{LabelSettings, SettingsRead};
+use rule::{Both, Track};
+use settings::LabelSettings;
 
 // Label settings, the number fed, and each track's label (1 available, 0 not) and number pending. Any words at all may stand here.
 #[derive(Clone, Copy)]
@@ -31,12 +31,6 @@ pub struct Evaluator {
     pub composite_pending: u64,
 }
 
-#[derive(Clone, Copy)]
-pub enum Started {
-    Ready(Evaluator),
-    Refused(Refusal),
-}
-
 // What a step settled on a track: how many labels, and which (1 available, 0 unavailable, 2 when none).
 #[derive(Clone, Copy)]
 pub struct Settled {
@@ -44,17 +38,8 @@ pub struct Settled {
     pub label: u64,
 }
 
-#[derive(Clone, Copy)]
-pub struct Answer {
-    pub loss: Settled,
-    pub composite: Settled,
-}
-
-#[derive(Clone, Copy)]
-pub enum Stepped {
-    Fed(Evaluator, Answer),
-    Refused(Refusal),
-}
+// What a step settled on both.
+pub type Answer = Both<Settled>;
 
 // The words of valid label settings, a number fed and two tracks.
 fn held_by(l: LabelSettings, fed: u64, loss: Track, composite: Track) -> Evaluator
@@ -92,18 +77,6 @@ pub struct Held {
     pub composite: Track,
 }
 
-#[derive(Clone, Copy)]
-pub enum LabelRead {
-    Valid(LabelSettings),
-    Invalid,
-}
-
-#[derive(Clone, Copy)]
-pub enum HeldRead {
-    Valid(Held),
-    Invalid,
-}
-
 // Whether the words of the label settings fit its fields.
 fn fits(e: Evaluator) -> bool
     ensures { result ≡ fits_words e }
@@ -135,23 +108,21 @@ fn narrow(e: Evaluator) -> LabelSettings
 }
 
 // The label settings in the words.
-fn label_of(e: Evaluator) -> LabelRead
+fn label_of(e: Evaluator) -> Option<LabelSettings>
     ensures { result ≡ label_read e }
 {
     let l = narrow(e);
     if fits(e) & settings::label_meets(l) {
-        return LabelRead::Valid(l);
+        return Some(l);
     }
-    LabelRead::Invalid
+    None
 }
 
 // All that the words hold.
-fn held_in(e: Evaluator) -> HeldRead
+fn held_in(e: Evaluator) -> Option<Held>
     ensures { result ≡ held_read e }
 {
-    let LabelRead::Valid(l) = label_of(e) else {
-        return HeldRead::Invalid;
-    };
+    let label = label_of(e)?;
     let loss = Track {
         label: e.loss_label == 0,
         pending: e.loss_pending,
@@ -166,13 +137,13 @@ fn held_in(e: Evaluator) -> HeldRead
         & rule::can_hold(e.n, e.fed, loss)
         & rule::can_hold(e.n, e.fed, composite)
     {
-        return HeldRead::Valid(Held {
-            label: l,
+        return Some(Held {
+            label,
             loss,
             composite,
         });
     }
-    HeldRead::Invalid
+    None
 }
 
 // What a step settled on a track whose mark is `mark`.
@@ -188,122 +159,55 @@ fn settled_by(count: u64, mark: bool) -> Settled
     }
 }
 
-// The next interval fed to what an evaluator holds.
-fn feed(h: Held, fed: u64, v: Interval) -> Stepped
+// The next interval fed to what an evaluator holds: the evaluator after it, and what it settled.
+fn feed(h: Held, fed: u64, v: Interval) -> (Evaluator, Answer)
     requires { (label_meets h.label ≡ true) × (fed < intervals) × (h.loss.pending < h.label.n) × (h.composite.pending < h.label.n) }
-    ensures { result ≡ Stepped.Fed (fed_with h fed v) (answer_of h v) }
+    ensures { result ≡ (fed_with h fed v, answer_of h v) }
 {
     let l = h.label;
-    let loss = h.loss;
-    let composite = h.composite;
     let m = marks::marks(l, v);
-    let a = rule::advance(l.n as u64, loss, m.loss);
-    let b = rule::advance(l.n as u64, composite, m.composite);
-    let next = a.track;
-    let other = b.track;
-    let answer = Answer {
+    let a = rule::advance(l.n as u64, h.loss, m.loss);
+    let b = rule::advance(l.n as u64, h.composite, m.composite);
+    let next = held_by(l, fed + 1, a.track, b.track);
+    let answer = Both {
         loss: settled_by(a.count, m.loss),
         composite: settled_by(b.count, m.composite),
     };
-    Stepped::Fed(held_by(l, fed + 1, next, other), answer)
+    (next, answer)
 }
 
 // An evaluator with nothing fed.
-pub fn start(s: &[u8]) -> Started
+pub fn start(s: &[u8]) -> Result<Evaluator, Refusal>
     ensures { result ≡ start_of s.now }
 {
-    let SettingsRead::Valid(v) = settings::read(s) else {
-        return Started::Refused(Refusal {
-            fault: Fault::Settings,
-            place: 0,
-        });
-    };
-    let l = v.label;
+    let v = settings::read(s).ok_or(Fault::Settings)?;
     let t = Track {
         label: false,
         pending: 0,
     };
-    Started::Ready(held_by(l, 0, t, t))
+    Ok(held_by(v.label, 0, t, t))
 }
 
 // The next interval record: the evaluator after it and what it settled, or a refusal.
-pub fn step(e: Evaluator, r: &[u8]) -> Stepped
+pub fn step(e: Evaluator, r: &[u8]) -> Result<(Evaluator, Answer), Refusal>
     ensures { result ≡ step_of e r.now }
 {
     if r.len() != 48 {
-        return Stepped::Refused(Refusal {
-            fault: Fault::Length,
-            place: 0,
-        });
+        return Err(Fault::Length.at(0));
     }
-    let HeldRead::Valid(h) = held_in(e) else {
-        return Stepped::Refused(Refusal {
-            fault: Fault::Field,
-            place: 0,
-        });
-    };
-    let IntervalRead::Valid(v) = intervals::read(r) else {
-        return Stepped::Refused(Refusal {
-            fault: Fault::Field,
-            place: 0,
-        });
-    };
+    let h = held_in(e).ok_or(Fault::Field)?;
+    let v = intervals::read(r).ok_or(Fault::Field)?;
     if v.number as u64 != e.fed {
-        return Stepped::Refused(Refusal {
-            fault: Fault::Order,
-            place: 0,
-        });
+        return Err(Fault::Order.at(0));
     }
-    feed(h, e.fed, v)
+    Ok(feed(h, e.fed, v))
 }
 
-// What a step answers.
-#[derive(Clone, Copy)]
-pub enum Told {
-    Settled(Answer),
-    Refused(Refusal),
-}
-
-// A step's answer with the evaluator that it leaves: a refusal leaves it as it was.
-#[derive(Clone, Copy)]
-pub struct Moved {
-    pub evaluator: Evaluator,
-    pub told: Told,
-}
-
-fn move_on(e: Evaluator, r: &[u8]) -> Moved
-    ensures { result ≡ moved_of e r.now }
-{
-    match step(e, r) {
-        Stepped::Fed(next, answer) => Moved {
-            evaluator: next,
-            told: Told::Settled(answer),
-        },
-        Stepped::Refused(x) => Moved {
-            evaluator: e,
-            told: Told::Refused(x),
-        },
-    }
-}
-
-fn evaluator_left(m: Moved) -> Evaluator
-    ensures { result ≡ m.evaluator }
-{
-    m.evaluator
-}
-
-fn answer_given(m: Moved) -> Told
-    ensures { result ≡ m.told }
-{
-    m.told
-}
-
-// The step over an evaluator that the collector holds and lends.
-pub fn step_in(e: &mut Evaluator, r: &[u8]) -> Told
+// The step over an evaluator that the collector holds and lends: a refusal leaves it as it was.
+pub fn step_in(e: &mut Evaluator, r: &[u8]) -> Result<Answer, Refusal>
     ensures { moved_to e.new result ≡ moved_of e.old r.now }
 {
-    let m = move_on(*e, r);
-    let next = evaluator_left(m);
+    let (next, answer) = step(*e, r)?;
     *e = next;
-    answer_given(m)
+    Ok(answer)
 }

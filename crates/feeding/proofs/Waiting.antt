@@ -8,16 +8,15 @@ use native.Mathlib.Omega.{arith}
 use lib.ListN.{length, take, drop, length-append, length-take, length-drop, take-append-drop}
 use lib.Seq.{take_all, take-length, take_at, length-take-le, take-append-add}
 use borrow.Rule.Slice.PartMut.{put_mid, same_len_mid}
+use Rattle.std.specs.Prelude.{Result, Ok, Err}
 use Rattle.numbers.specs.Refusals.{refusal}
 use Rattle.numbers.specs.declared.refusal.Refusal.{Refusal}
 use Rattle.intervals.specs.Sequence.{intervals_in, checked}
-use Rattle.intervals.specs.declared.Sequence.{Sequence}
 use Rattle.labels.specs.Stretch.{intervals_of}
 use Rattle.tracks.specs.Tracks.{join, push_all, summary}
 use Rattle.summaries.specs.declared.Summary.{Summary}
 use Rattle.summaries.specs.Made.{made_of}
 use Rattle.gathering.specs.Gathering.{good_if, gathered}
-use Rattle.gathering.specs.declared.Gathered.{Gathered}
 use Rattle.joining.specs.Joining.{joined_of, Adjoining}
 use Rattle.feeding.specs.Feeding.{Standing, standing, held_if, behind, grown, grown_by, rest_of, filled, fed, Known, Growing, Ready}
 use Rattle.feeding.specs.declared.Held.{Held}
@@ -120,28 +119,28 @@ waits h next t piece rest n room valid e f all {after} put =
 
 -- a summary that grows by sound records, and one whose next records are at fault
 
-good_told : (c : Sequence) (w x : Summary) → good_if c w ≡ Gathered.Good x → (c ≡ Sequence.Sound) × (w ≡ x)
-good_told Sequence.Sound w x e = (refl, (cc))
-good_told (Sequence.Refused r) w x e = let z : ◌≡◌ {A = ℕ} 0 1 = cc in absurd (omega arith)
+good_told : (c : Result (Unit {0}) Refusal) (w x : Summary) → good_if c w ≡ Ok x → (c ≡ Ok tt) × (w ≡ x)
+good_told (Ok tt) w x e = (refl, (cc))
+good_told (Err r) w x e = let z : ◌≡◌ {A = ℕ} 0 1 = cc in absurd (omega arith)
 
-bad_told : (c : Sequence) (w : Summary) (r : Refusal) → good_if c w ≡ Gathered.Bad r → c ≡ Sequence.Refused r
-bad_told Sequence.Sound w r e = let z : ◌≡◌ {A = ℕ} 0 1 = cc in absurd (omega arith)
-bad_told (Sequence.Refused q) w r e = let f : q ≡ r = cc in ap Sequence.Refused f
+bad_told : (c : Result (Unit {0}) Refusal) (w : Summary) (r : Refusal) → good_if c w ≡ Err r → c ≡ Err r
+bad_told (Ok tt) w r e = let z : ◌≡◌ {A = ℕ} 0 1 = cc in absurd (omega arith)
+bad_told (Err q) w r e = let f : q ≡ r = cc in ap Err f
 
 module _ (v : Summary) (s : List ℕ) where
   further : checked v.after v.after (intervals_in s) ≡ moved_by v.after (checked v.after 0 (intervals_in s))
   further = ap (λ k. checked v.after k (intervals_in s)) (sym (zero-add v.after)) ∙ checked_moved v.after 0 v.after (intervals_in s)
 
   pub grown_good :
-      (x : Summary) → Known v → gathered v.label v.after s ≡ Gathered.Good x → Adjoining v x × (grown v s ≡ Held.Sound (joined_of v x))
+      (x : Summary) → Known v → gathered v.label v.after s ≡ Ok x → Adjoining v x × (grown v s ≡ Held.Sound (joined_of v x))
   unfolding gathered grown
   grown_good x k e =
       let told = good_told (checked v.after 0 (intervals_in s)) (behind v s) x e in
-      let sound : checked v.after v.after (intervals_in s) ≡ Sequence.Sound = further ∙ ap (moved_by v.after) told.0 in
+      let sound : checked v.after v.after (intervals_in s) ≡ Ok tt = further ∙ ap (moved_by v.after) told.0 in
       (subst (Adjoining v) told.1 (adjoins v k s sound), ap (λ c. held_if c (joined_of v (behind v s))) sound ∙ ap (λ y. Held.Sound (joined_of v y)) told.1)
 
   pub grown_bad :
-      (r : Refusal) → gathered v.label v.after s ≡ Gathered.Bad r →
+      (r : Refusal) → gathered v.label v.after s ≡ Err r →
       (r.place < length s / 48) × (grown v s ≡ Held.Faulty (refusal r.fault (r.place + v.after)))
   unfolding gathered grown
   grown_bad r e =

@@ -11,14 +11,13 @@ use native.Mathlib.Omega.{arith}
 use lib.ListN.{length}
 use lib.Seq.{length-take-le}
 use lib.Dec.{eqb}
+use Rattle.std.specs.Prelude.{Option, Some, None, Result, Ok, Err}
 use Rattle.numbers.specs.Limits.{intervals}
 use Rattle.numbers.specs.Many.{count_of, whole_if, read_each}
 use Rattle.numbers.specs.Room.{has_room}
 use Rattle.settings.specs.Settings.{settings_of}
 use Rattle.settings.specs.declared.LabelSettings.{LabelSettings}
-use Rattle.settings.specs.declared.SettingsRead.{SettingsRead}
 use Rattle.intervals.specs.Sequence.{intervals_in, checked}
-use Rattle.intervals.specs.declared.Sequence.{Sequence}
 use Rattle.labels.specs.Stretch.{intervals_of}
 use Rattle.labels.proofs.Placing.{read_label}
 use Rattle.summaries.specs.Stored.{summary_bytes}
@@ -37,9 +36,11 @@ use Rattle.feeding.specs.declared.Held.{Held}
 use Rattle.feeding.specs.declared.State.{State}
 use Rattle.feeding.proofs.Pieces.{whole_of, cut, whole_length, rest_short, none_few, rest_length, records_both, rest_second}
 use Rattle.feeding.proofs.Sound.{then_if, checked_both, intervals_both, SoundPart, sound_part}
+use Rattle.settings.specs.declared.Settings.{Settings}
+use Rattle.numbers.specs.declared.refusal.Refusal.{Refusal}
 
 -- the records of a valid summary's next part, where they are sound
-module _ (v : Summary) (k : Known v) (s : List ℕ) (sound : checked v.after v.after (intervals_in s) ≡ Sequence.Sound) where
+module _ (v : Summary) (k : Known v) (s : List ℕ) (sound : checked v.after v.after (intervals_in s) ≡ Ok tt) where
   v_valid : SummaryValid v
   v_valid = summary_valid k.bytes v k.read
 
@@ -64,9 +65,9 @@ pub grown_known : (v : Summary) (s : List ℕ) → Known v → Growing (grown v 
 unfolding grown Growing
 grown_known v s k = by (checked v.after v.after (intervals_in s)) refl
   where
-    by : (x : Sequence) → checked v.after v.after (intervals_in s) ≡ x → Growing (held_if x (joined_of v (behind v s)))
-    by Sequence.Sound e = record { bytes = summary_bytes (joined_of v (behind v s)); read = join_reads_back v (behind v s) (adjoins v k s e) }
-    by (Sequence.Refused r) e = tt
+    by : (x : Result (Unit {0}) Refusal) → checked v.after v.after (intervals_in s) ≡ x → Growing (held_if x (joined_of v (behind v s)))
+    by (Ok tt) e = record { bytes = summary_bytes (joined_of v (behind v s)); read = join_reads_back v (behind v s) (adjoins v k s e) }
+    by (Err r) e = tt
 
 pub held_known : (h : Held) (s : List ℕ) → Growing h → Growing (grown_by h s)
 unfolding Growing
@@ -109,11 +110,11 @@ grown_both v w x m e k =
     (sym (ap (checked v.after v.after) (records_both w m e x) ∙ checked_both v.after v.after (intervals_in w) (intervals_in x)))
   where
     by :
-        (c : Sequence) → checked v.after v.after (intervals_in w) ≡ c →
+        (c : Result (Unit {0}) Refusal) → checked v.after v.after (intervals_in w) ≡ c →
         grown_by (held_if c (joined_of v (behind v w))) x
         ≡ held_if (then_if c (checked (v.after + length (intervals_in w)) (v.after + length (intervals_in w)) (intervals_in x))) (joined_of v (behind v (w ++ x)))
-    by Sequence.Sound f = grown_parts v w x m e (part v k w f).many
-    by (Sequence.Refused r) f = refl
+    by (Ok tt) f = grown_parts v w x m e (part v k w f).many
+    by (Err r) f = refl
 
 pub held_both : (h : Held) (w x : List ℕ) (m : ℕ) → length w ≡ m * 48 → Growing h → grown_by (grown_by h w) x ≡ grown_by h (w ++ x)
 unfolding Growing
@@ -165,9 +166,9 @@ first_valid : (settings : List ℕ) → Growing (begun settings).held
 unfolding begun Growing AllValid
 first_valid settings = by (settings_of settings) refl
   where
-    by : (r : SettingsRead) → settings_of settings ≡ r → Growing (begun_by r)
-    by SettingsRead.Invalid e = tt
-    by (SettingsRead.Valid v) e =
+    by : (r : Option Settings) → settings_of settings ≡ r → Growing (begun_by r)
+    by None e = tt
+    by (Some v) e =
         record {
           bytes = summary_bytes (made_of v.label 0 []);
           read = made_reads_back v.label 0 [] (read_label settings v e) tt (omega arith);
@@ -186,19 +187,19 @@ pub fed_nothing : (settings tail : List ℕ) → fed (standing (begun settings) 
 unfolding fed filled begun rest_of intervals_in read_each checked intervals_of
 fed_nothing settings tail = by (settings_of settings)
   where
-    by : (r : SettingsRead) → ◌≡◌ {A = Standing} (record { held = grown_by (begun_by r) []; tail = [] }) (record { held = begun_by r; tail = [] })
-    by SettingsRead.Invalid = refl
-    by (SettingsRead.Valid v) = ap (λ h. record { held = h; tail = [] }) (from_nothing v.label [])
+    by : (r : Option Settings) → ◌≡◌ {A = Standing} (record { held = grown_by (begun_by r) []; tail = [] }) (record { held = begun_by r; tail = [] })
+    by None = refl
+    by (Some v) = ap (λ h. record { held = h; tail = [] }) (from_nothing v.label [])
 
 -- the length before any record
 at_end :
-    (l : LabelSettings) (s : List ℕ) (b : Bool) (n : ℕ) (c : Sequence) (v : Summary) → eqb n 0 ≡ b → gathered l 0 s ≡ good_if c v →
+    (l : LabelSettings) (s : List ℕ) (b : Bool) (n : ℕ) (c : Result (Unit {0}) Refusal) (v : Summary) → eqb n 0 ≡ b → gathered l 0 s ≡ good_if c v →
     finished_by (held_if c v) n ≡ gathered_count l (whole_if b (length s / 48)) true 0 s
 unfolding intervals
-at_end l s true n Sequence.Sound v e f = rw e (sym f)
-at_end l s false n Sequence.Sound v e f = rw e
-at_end l s true n (Sequence.Refused r) v e f = rw e (sym f)
-at_end l s false n (Sequence.Refused r) v e f = rw e
+at_end l s true n (Ok tt) v e f = rw e (sym f)
+at_end l s false n (Ok tt) v e f = rw e
+at_end l s true n (Err r) v e f = rw e (sym f)
+at_end l s false n (Err r) v e f = rw e
 
 rest_modulo : (s : List ℕ) → length (rest_of s) ≡ length s % 48
 rest_modulo s = rest_length s ∙ sym (mod-eq-sub-div-mul (length s) 48)
@@ -207,9 +208,9 @@ pub fed_once : (settings tail s : List ℕ) → finished (fed (standing (begun s
 unfolding fed filled begun made has_room count_of gathered
 fed_once settings tail s = by (settings_of settings)
   where
-    by : (r : SettingsRead) → finished_by (grown_by (begun_by r) s) (length (rest_of s)) ≡ gathered_settings r true 0 s
-    by SettingsRead.Invalid = refl
-    by (SettingsRead.Valid v) =
+    by : (r : Option Settings) → finished_by (grown_by (begun_by r) s) (length (rest_of s)) ≡ gathered_settings r true 0 s
+    by None = refl
+    by (Some v) =
         ap (λ h. finished_by h (length (rest_of s))) (from_nothing v.label s)
         ∙ at_end v.label s (eqb (length s % 48) 0) (length (rest_of s)) (checked 0 0 (intervals_in s)) (made_of v.label 0 (intervals_of (intervals_in s)))
         (ap (λ n. eqb n 0) (rest_modulo s)) refl

@@ -1,20 +1,18 @@
 -- Interval records fed piece by piece: what stands after each piece, and what is said at the end.
-use Rattle.std.specs.Prelude.{ℕ, ◌*◌, ◌/◌, ◌<◌, ◌≡◌, cond, List, [], ◌∷◌, ◌++◌, length, take, drop, eqb}
+use Rattle.std.specs.Prelude.{ℕ, ◌*◌, ◌/◌, ◌<◌, ◌≡◌, cond, List, [], ◌∷◌, ◌++◌, length, take, drop, eqb, Option, Some, None, Result, Ok, Err}
 use Rattle.numbers.specs.Refusals.{refusal}
 use Rattle.numbers.specs.declared.refusal.Fault.{Fault}
 use Rattle.settings.specs.Settings.{settings_of}
-use Rattle.settings.specs.declared.SettingsRead.{SettingsRead}
 use Rattle.intervals.specs.Sequence.{intervals_in, checked}
-use Rattle.intervals.specs.declared.Sequence.{Sequence}
 use Rattle.labels.specs.Stretch.{intervals_of}
 use Rattle.summaries.specs.Stored.{summary_of}
 use Rattle.summaries.specs.declared.Summary.{Summary}
-use Rattle.summaries.specs.declared.SummaryRead.{SummaryRead}
 use Rattle.summaries.specs.Made.{made_of}
-use Rattle.gathering.specs.declared.Gathered.{Gathered}
 use Rattle.joining.specs.Joining.{joined_of}
 use Rattle.feeding.specs.declared.Held.{Held}
 use Rattle.feeding.specs.declared.State.{State}
+use Rattle.settings.specs.declared.Settings.{Settings}
+use Rattle.numbers.specs.declared.refusal.Refusal.{Refusal}
 
 -- what the whole records so far say, and the bytes of a record that has begun
 pub record Standing : Type 0 where
@@ -24,9 +22,9 @@ pub record Standing : Type 0 where
 abbrev pub standing : State → List ℕ → Standing
 standing x tail = record { held = x.held; tail = take x.left tail }
 
-abbrev pub held_if : Sequence → Summary → Held
-held_if Sequence.Sound v = Held.Sound v
-held_if (Sequence.Refused r) v = Held.Faulty r
+abbrev pub held_if : Result (Unit {0}) Refusal → Summary → Held
+held_if (Ok tt) v = Held.Sound v
+held_if (Err r) v = Held.Faulty r
 
 -- the summary of the whole records of s, behind another
 abbrev pub behind : Summary → List ℕ → Summary
@@ -51,9 +49,9 @@ filled h s = record { held = grown_by h s; tail = rest_of s }
 
 -- at the start, after a piece more, after all the pieces
 
-abbrev pub begun_by : SettingsRead → Held
-begun_by SettingsRead.Invalid = Held.Unset
-begun_by (SettingsRead.Valid v) = Held.Sound (made_of v.label 0 [])
+abbrev pub begun_by : Option Settings → Held
+begun_by None = Held.Unset
+begun_by (Some v) = Held.Sound (made_of v.label 0 [])
 
 unfoldable pub begun : List ℕ → State
 begun settings = record { held = begun_by (settings_of settings); left = 0 }
@@ -66,21 +64,21 @@ fed_all x [] = x
 fed_all x (piece ∷ pieces) = fed_all (fed x piece) pieces
 
 -- at the end: the settings, then the length, then the first record at fault
-abbrev pub if_whole : ℕ → Gathered → Gathered
-if_whole left g = cond (eqb left 0) g (Gathered.Bad (refusal Fault.Length 0))
+abbrev pub if_whole : ℕ → Result Summary Refusal → Result Summary Refusal
+if_whole left g = cond (eqb left 0) g (Err (refusal Fault.Length 0))
 
-abbrev pub finished_by : Held → ℕ → Gathered
-finished_by Held.Unset left = Gathered.Bad (refusal Fault.Settings 0)
-finished_by (Held.Sound v) left = if_whole left (Gathered.Good v)
-finished_by (Held.Faulty r) left = if_whole left (Gathered.Bad r)
+abbrev pub finished_by : Held → ℕ → Result Summary Refusal
+finished_by Held.Unset left = Err (refusal Fault.Settings 0)
+finished_by (Held.Sound v) left = if_whole left (Ok v)
+finished_by (Held.Faulty r) left = if_whole left (Err r)
 
-abbrev pub finished : Standing → Gathered
+abbrev pub finished : Standing → Result Summary Refusal
 finished x = finished_by x.held (length x.tail)
 
 -- a summary that 1,024 bytes say
 pub record Known (v : Summary) : Type 0 where
   pub bytes : List ℕ
-  pub read : summary_of bytes ≡ SummaryRead.Valid v
+  pub read : summary_of bytes ≡ Some v
 
 unfoldable pub Growing : Held → Type 0
 Growing Held.Unset = Unit {0}

@@ -7,6 +7,7 @@ use lib.Dec.{eqb}
 use Prim.Native.Nat.{ℕ, ◌≤◌}
 use native.Mathlib.Nat.{add-zero}
 use native.Mathlib.Omega.{arith}
+use Rattle.std.specs.Prelude.{Some, Result, Ok, Err}
 use Rattle.numbers.specs.Limits.{intervals}
 use Rattle.numbers.specs.Refusals.{refusal}
 use Rattle.numbers.specs.declared.refusal.Fault.{Fault}
@@ -18,21 +19,20 @@ use Rattle.summaries.specs.declared.Summary.{Summary}
 use Rattle.summaries.proofs.Validity.{SummaryValid, summary_valid}
 use Rattle.summaries.specs.Made.{made_of}
 use Rattle.summaries.proofs.Made.{made_reads_back}
-use Rattle.gathering.specs.declared.Gathered.{Gathered}
 use Rattle.periods.specs.Stretches as stretches
 use Rattle.periods.specs.Stretches.{stretch_of, held_if, stretch_held, first_held, after_held, label_held}
-use Rattle.periods.specs.declared.StretchRead.{StretchRead}
 use Rattle.periods.proofs.Promises.{period_bounded}
 use Rattle.verdicts.specs.Verdicts.{Judgeable}
 use Rattle.verdicts.proofs.Fitting.{judgeable}
 use Rattle.feeding.specs.Feeding.{Known, Growing, finished_by}
 use Rattle.feeding.specs.declared.Held.{Held}
 use Rattle.files.specs.Files.{stretch, alone_of, Judging}
+use Rattle.numbers.specs.declared.refusal.Refusal.{Refusal}
 
 -- an empty summary at a number reads back
 nothing_read :
     (v : Summary) (at : ℕ) → SummaryValid v → at ≤ intervals →
-    stretch_of (summary_bytes (made_of v.label at [])) ≡ StretchRead.Valid (stretch (made_of v.label at []))
+    stretch_of (summary_bytes (made_of v.label at [])) ≡ Some (stretch (made_of v.label at []))
 unfolding AllValid
 nothing_read v at valid few =
     stretch_held (summary_bytes (made_of v.label at [])) ∙ ap held_if (made_reads_back v.label at [] valid.settings tt (omega arith))
@@ -65,18 +65,18 @@ alone_judgeable s v j =
 
 -- a summary that stands at the end was held
 
-from_whole : (b : Bool) (g : Gathered) (v : Summary) → cond b g (Gathered.Bad (refusal Fault.Length 0)) ≡ Gathered.Good v → g ≡ Gathered.Good v
+from_whole : (b : Bool) (g : Result Summary Refusal) (v : Summary) → cond b g (Err (refusal Fault.Length 0)) ≡ Ok v → g ≡ Ok v
 from_whole true g v e = e
 from_whole false g v e = let z : ◌≡◌ {A = ℕ} 0 1 = cc in absurd (omega arith)
 
-pub good_held : (h : Held) (n : ℕ) (v : Summary) → Growing h → finished_by h n ≡ Gathered.Good v → Known v
+pub good_held : (h : Held) (n : ℕ) (v : Summary) → Growing h → finished_by h n ≡ Ok v → Known v
 unfolding Growing
 good_held Held.Unset n v k e = let z : ◌≡◌ {A = ℕ} 0 1 = cc in absurd (omega arith)
 good_held (Held.Sound w) n v k e =
-    let f = from_whole (eqb n 0) (Gathered.Good w) v e in
+    let f = from_whole (eqb n 0) (Ok w) v e in
     let g : w ≡ v = cc in
     subst Known g k
 good_held (Held.Faulty r) n v k e =
-    let f = from_whole (eqb n 0) (Gathered.Bad r) v e in
+    let f = from_whole (eqb n 0) (Err r) v e in
     let z : ◌≡◌ {A = ℕ} 0 1 = cc in
     absurd (omega arith)

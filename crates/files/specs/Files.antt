@@ -1,15 +1,13 @@
 -- A whole file of intervals as one period: nothing lies before it, and nothing behind it.
-use Rattle.std.specs.Prelude.{ℕ, ◌≡◌, List, []}
+use Rattle.std.specs.Prelude.{ℕ, ◌≡◌, List, [], Option, Some, None, Result, Ok, Err}
 use Rattle.numbers.specs.Refusals.{refusal}
 use Rattle.numbers.specs.declared.refusal.Fault.{Fault}
 use Rattle.settings.specs.Settings.{settings_of}
 use Rattle.settings.specs.declared.Settings.{Settings}
-use Rattle.settings.specs.declared.SettingsRead.{SettingsRead}
 use Rattle.intervals.specs.declared.Interval.{Interval}
 use Rattle.rule.specs.Labels.{Label}
 use Rattle.summaries.specs.declared.Summary.{Summary}
 use Rattle.summaries.specs.Made.{made_of}
-use Rattle.gathering.specs.declared.Gathered.{Gathered}
 use Rattle.making.specs.Making.{made}
 use Rattle.tallies.specs.declared.Period.{Period}
 use Rattle.tallies.specs.Report.{report}
@@ -18,7 +16,7 @@ use Rattle.periods.specs.declared.Stretch.{Stretch}
 use Rattle.verdicts.specs.Verdicts.{verdicts_by, verdicts_of}
 use Rattle.feeding.specs.Feeding.{Known}
 use Rattle.files.specs.declared.Answer.{Answer}
-use Rattle.files.specs.declared.Concluded.{Concluded}
+use Rattle.numbers.specs.declared.refusal.Refusal.{Refusal}
 
 abbrev pub stretch : Summary → Stretch
 stretch v = record { held = v }
@@ -34,13 +32,13 @@ answered s r = record { period = r; verdicts = verdicts_of s r }
 abbrev pub answer_of : Settings → Summary → Answer
 answer_of s v = answered s (alone_of v)
 
-abbrev pub concluded_by : SettingsRead → Gathered → Concluded
-concluded_by SettingsRead.Invalid g = Concluded.Refused (refusal Fault.Settings 0)
-concluded_by (SettingsRead.Valid s) (Gathered.Good v) = Concluded.Answered (answer_of s v)
-concluded_by (SettingsRead.Valid s) (Gathered.Bad r) = Concluded.Refused r
+abbrev pub concluded_by : Option Settings → Result Summary Refusal → Result Answer Refusal
+concluded_by None g = Err (refusal Fault.Settings 0)
+concluded_by (Some s) (Ok v) = Ok (answer_of s v)
+concluded_by (Some s) (Err r) = Err r
 
 -- what a file of the bytes s says, by the bytes of its settings
-unfoldable pub evaluated : List ℕ → List ℕ → Concluded
+unfoldable pub evaluated : List ℕ → List ℕ → Result Answer Refusal
 evaluated settings s = concluded_by (settings_of settings) (made settings 0 s 1024 0)
 
 -- what the definition says of a whole file's intervals, by their labels
@@ -50,5 +48,5 @@ defined_answer s loss composite vs = record { period = report s.label loss compo
 -- settings that bytes say, and a summary that bytes say
 pub record Judging (s : Settings) (v : Summary) : Type 0 where
   pub bytes : List ℕ
-  pub read : settings_of bytes ≡ SettingsRead.Valid s
+  pub read : settings_of bytes ≡ Some s
   pub known : Known v

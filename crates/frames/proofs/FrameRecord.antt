@@ -7,12 +7,12 @@ use Prim.Native.Nat.{ℕ, ◌≤◌}
 use native.Mathlib.Omega.{arith}
 use lib.Dec.{eqb}
 use borrow.Author.Tests.{leb-true, eqb-true}
+use Rattle.std.specs.Prelude.{Some}
 use Rattle.numbers.specs.Limits.{largest_delay}
 use Rattle.numbers.specs.Rules.{all_met}
 use Rattle.numbers.proofs.Rules.{rule_met}
 use Rattle.frames.specs.Frame.{frame_in, frame_rules, frame_of, valid_if}
 use Rattle.frames.specs.declared.Frame.{Frame}
-use Rattle.frames.specs.declared.FrameRead.{FrameRead}
 
 pub record FrameValid (f : Frame) : Type 0 where
   pub delay_fact : f.delay ≤ largest_delay
@@ -22,11 +22,11 @@ no_delay : (lost : Bool) (d : ℕ) → not lost || eqb d 0 ≡ true → lost ≡
 no_delay true d h e = eqb-true d 0 h
 no_delay false d h e = let z : ◌≡◌ {A = ℕ} 0 1 = cc in absurd (omega arith)
 
-taken_out : (t : Bool) (w v : Frame) → valid_if t w ≡ FrameRead.Valid v → (t ≡ true) × (w ≡ v)
+taken_out : (t : Bool) (w v : Frame) → valid_if t w ≡ Some v → (t ≡ true) × (w ≡ v)
 taken_out true w v e = (refl, (cc))
 taken_out false w v e = let z : ◌≡◌ {A = ℕ} 0 1 = cc in absurd (omega arith)
 
-pub frame_valid : (s : List ℕ) (f : Frame) → frame_of s ≡ FrameRead.Valid f → FrameValid f
+pub frame_valid : (s : List ℕ) (f : Frame) → frame_of s ≡ Some f → FrameValid f
 unfolding frame_of frame_rules
 frame_valid s f e =
     let r = taken_out (all_met (frame_rules s)) (frame_in s) f e in

@@ -1,10 +1,9 @@
 -- The frame record of document 01, 16 bytes.
-use Rattle.std.specs.Prelude.{ℕ, Bool, true, false, ◌||◌, not, List, [], ◌∷◌, length, get_or, leb, eqb}
+use Rattle.std.specs.Prelude.{ℕ, Bool, true, false, ◌||◌, not, List, [], ◌∷◌, length, get_or, leb, eqb, Option, Some, None}
 use Rattle.numbers.specs.Bytes.{number_at, are_zero}
 use Rattle.numbers.specs.Limits.{largest_delay}
 use Rattle.numbers.specs.Rules.{all_met}
 use Rattle.frames.specs.declared.Frame.{Frame}
-use Rattle.frames.specs.declared.FrameRead.{FrameRead}
 
 -- where each value stands
 unfoldable pub frame_in : List ℕ → Frame
@@ -20,10 +19,10 @@ frame_rules s =
     ∷ (not (frame_in s).lost || eqb (frame_in s).delay 0)
     ∷ []
 
-abbrev pub valid_if : Bool → Frame → FrameRead
-valid_if true v = FrameRead.Valid v
-valid_if false v = FrameRead.Invalid
+abbrev pub valid_if : Bool → Frame → Option Frame
+valid_if true v = Some v
+valid_if false v = None
 
 -- what the bytes say, if they meet every rule
-unfoldable pub frame_of : List ℕ → FrameRead
+unfoldable pub frame_of : List ℕ → Option Frame
 frame_of s = valid_if (all_met (frame_rules s)) (frame_in s)

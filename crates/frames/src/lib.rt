@@ -15,12 +15,6 @@ pub struct Frame {
     pub lost: bool,
 }
 
-#[derive(Clone, Copy)]
-pub enum FrameRead {
-    Valid(Frame),
-    Invalid,
-}
-
 // The values that stand in 16 bytes.
 fn frame_in(s: &[u8]) -> Frame
     requires { length s.now ≡ 16 }
@@ -34,19 +28,19 @@ fn frame_in(s: &[u8]) -> Frame
 }
 
 // The frame in `s`, if it is 16 bytes and meets every rule. The state and the spare bytes are one number, 0 or 1.
-pub fn read(s: &[u8]) -> FrameRead
+pub fn read(s: &[u8]) -> Option<Frame>
     ensures { result ≡ frame_of s.now }
 {
     if s.len() != 16 {
-        return FrameRead::Invalid;
+        return None;
     }
     let v = frame_in(s);
     if (v.delay <= limits::LARGEST_DELAY)
         & (known::get_u32(s, 12) <= 1)
         & (!v.lost | (v.delay == 0))
     {
-        FrameRead::Valid(v)
+        Some(v)
     } else {
-        FrameRead::Invalid
+        None
     }
 }

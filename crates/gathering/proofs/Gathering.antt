@@ -7,6 +7,7 @@ use native.Mathlib.Nat.{add-zero}
 use native.Mathlib.Omega.{arith}
 use lib.ListN.{length}
 use borrow.Author.Tests.{eq-eqb, ne_eqb}
+use Rattle.std.specs.Prelude.{Some, None, Ok, Err}
 use Rattle.numbers.specs.Many.{record_at}
 use Rattle.numbers.specs.Refusals.{refusal}
 use Rattle.numbers.specs.declared.refusal.Fault.{Fault}
@@ -14,7 +15,6 @@ use Rattle.settings.specs.declared.LabelSettings.{LabelSettings}
 use Rattle.intervals.specs.Interval.{interval_of}
 use Rattle.intervals.specs.Sequence.{reads_from, checked}
 use Rattle.intervals.specs.declared.Interval.{Interval}
-use Rattle.intervals.specs.declared.IntervalRead.{IntervalRead}
 use Rattle.intervals.proofs.Sequences.{reads_all, reads_next, reads_done}
 use Rattle.labels.specs.Stretch.{intervals_of}
 use Rattle.runs.specs.Runs.{single}
@@ -24,7 +24,6 @@ use Rattle.tracks.specs.declared.Track.TheVariants.{Nothing, One}
 use Rattle.tracks.specs.Tracks.{push, push_all, summary}
 use Rattle.summaries.specs.Made.{made_of}
 use Rattle.gathering.specs.Gathering.{good_if, gathered, made_with, onwards}
-use Rattle.gathering.specs.declared.Gathered.{Gathered}
 
 -- an interval more behind the tracks
 with_next :
@@ -36,17 +35,17 @@ with_next l first next a b v vs = let e : next + suc (length vs) ≡ suc next + 
 
 module _ (l : LabelSettings) (first n k next : ℕ) (s : List ℕ) (a b : Track) where
   pub on_done :
-      n ≤ k → onwards l first next k a b (reads_from (n - k) s k) ≡ Gathered.Good (record { first = first; after = next; label = l; loss = a; composite = b })
+      n ≤ k → onwards l first next k a b (reads_from (n - k) s k) ≡ Ok (record { first = first; after = next; label = l; loss = a; composite = b })
   unfolding onwards checked intervals_of made_with push_all
   on_done h = rw (reads_done n k s h, add-zero)
 
   pub on_invalid :
-      k < n → interval_of (record_at s 48 k) ≡ IntervalRead.Invalid → onwards l first next k a b (reads_from (n - k) s k) ≡ Gathered.Bad (refusal Fault.Field k)
+      k < n → interval_of (record_at s 48 k) ≡ None → onwards l first next k a b (reads_from (n - k) s k) ≡ Err (refusal Fault.Field k)
   unfolding onwards checked
   on_invalid h e = rw (reads_next n k s h, e)
 
-  module _ (v : Interval) (h : k < n) (e : interval_of (record_at s 48 k) ≡ IntervalRead.Valid v) where
-    pub on_disordered : (v.number ≡ next → ⊥) → onwards l first next k a b (reads_from (n - k) s k) ≡ Gathered.Bad (refusal Fault.Order k)
+  module _ (v : Interval) (h : k < n) (e : interval_of (record_at s 48 k) ≡ Some v) where
+    pub on_disordered : (v.number ≡ next → ⊥) → onwards l first next k a b (reads_from (n - k) s k) ≡ Err (refusal Fault.Order k)
     unfolding onwards checked
     on_disordered other = rw (reads_next n k s h, e, ne_eqb v.number next other)
 
@@ -71,7 +70,7 @@ from_first l first s = ap (λ xs. good_if (checked first 0 xs) (made_of l first 
 -- the first record makes the first runs
 pub from_second :
     (l : LabelSettings) (first : ℕ) (s : List ℕ) (v : Interval) →
-    0 < length s / 48 → interval_of (record_at s 48 0) ≡ IntervalRead.Valid v → v.number ≡ first →
+    0 < length s / 48 → interval_of (record_at s 48 0) ≡ Some v → v.number ≡ first →
     gathered l first s
     ≡ onwards l first (first + 1) 1 (One (single (loss_seen l v))) (One (single (composite_seen l v))) (reads_from (length s / 48 - 1) s 1)
 unfolding push

@@ -6,6 +6,7 @@ use mathlib.Core.Bool.{Bool, true, false, cond, ◌&&◌, beq, and-eq-true_iff}
 use mathlib.Core.List.{List}
 use Prim.Native.Nat.{ℕ, ◌+◌, ◌-◌, ◌≤◌, ◌<◌}
 use native.Mathlib.Omega.{arith}
+use Rattle.std.specs.Prelude.{Some, Result, Bool}
 use Rattle.numbers.specs.Limits.{intervals}
 use Rattle.numbers.specs.Many.{record_at}
 use Rattle.settings.specs.Settings.{label_meets}
@@ -13,10 +14,8 @@ use Rattle.settings.specs.declared.LabelSettings.{LabelSettings}
 use Rattle.intervals.specs.Interval.{interval_of}
 use Rattle.intervals.specs.Sequence.{reads_from}
 use Rattle.intervals.specs.declared.Interval.{Interval}
-use Rattle.intervals.specs.declared.IntervalRead.{IntervalRead}
 use Rattle.intervals.proofs.IntervalRecord.{IntervalValid, interval_valid}
 use Rattle.labels.specs.Marked.{counts_of, loss_mark, composite_mark, both_high}
-use Rattle.labels.specs.declared.marks.Both.{Both}
 use Rattle.runs.specs.declared.middles.Middle.{Middle}
 use Rattle.runs.specs.declared.run.Run.{Run}
 use Rattle.runs.specs.Runs.{single, load_of, gross, glue, same}
@@ -35,8 +34,10 @@ use Rattle.tracks.proofs.Deciding.{beq_yes}
 use Rattle.tracks.proofs.Joining.{push_glue, push_many}
 use Rattle.tracks.proofs.Keeping.{push_valid}
 use Rattle.gathering.specs.Gathering.{onwards, toned, Held, Begun, Gone}
-use Rattle.gathering.specs.declared.Gathered.{Gathered}
 use Rattle.gathering.proofs.Gathering.{on_next}
+use Rattle.numbers.specs.declared.refusal.Refusal.{Refusal}
+use Rattle.summaries.specs.declared.Summary.{Summary}
+use Rattle.rule.specs.declared.Both.{Both}
 
 -- an interval as a segment
 
@@ -154,7 +155,7 @@ several_next n p f m t r em et = cc (push_many n p f m t r)
 
 -- the marks have not changed
 pub kept_marks :
-    (m h : Both) → beq m.loss h.loss && beq m.composite h.composite ≡ true → (m.loss ≡ h.loss) × (m.composite ≡ h.composite)
+    (m h : Both Bool) → beq m.loss h.loss && beq m.composite h.composite ≡ true → (m.loss ≡ h.loss) × (m.composite ≡ h.composite)
 kept_marks m h e =
     let f = (and-eq-true_iff (beq m.loss h.loss) (beq m.composite h.composite)).0 e in
     (beq_yes m.loss h.loss f.0, beq_yes m.composite h.composite f.1)
@@ -174,49 +175,49 @@ next_to :
 next_to n p a g h m v ea et eg eh = cc (segment_next n p a m h g v)
 
 -- what is made of n records, the first of which is the segment `start` with these marks
-abbrev pub of_first : LabelSettings → List ℕ → ℕ → ℕ → Run → Both → Gathered
+abbrev pub of_first : LabelSettings → List ℕ → ℕ → ℕ → Run → Both Bool → Result Summary Refusal
 of_first l s n first start begun =
     onwards l first (first + 1) 1 (One (toned begun.loss start)) (One (toned begun.composite start)) (reads_from (n - 1) s 1)
 
 -- what is made of the records from the k-th on, behind two tracks and a segment with these marks
-abbrev pub of_rest : LabelSettings → List ℕ → ℕ → ℕ → Track → Track → Run → Both → ℕ → ℕ → Gathered
+abbrev pub of_rest : LabelSettings → List ℕ → ℕ → ℕ → Track → Track → Run → Both Bool → ℕ → ℕ → Result Summary Refusal
 of_rest l s n first a b g h next k =
     onwards l first next k (push l.n l.p a (toned h.loss g)) (push l.n l.p b (toned h.composite g)) (reads_from (n - k) s k)
 
 -- the loop over the records before the k-th: what is made of all, x, is what is made of the rest
-pub record Going (l : LabelSettings) (s : List ℕ) (n first : ℕ) (x : Gathered) (a b : Track) (g : Run) (h : Both) (next k : ℕ) : Type 0 where
+pub record Going (l : LabelSettings) (s : List ℕ) (n first : ℕ) (x : Result Summary Refusal) (a b : Track) (g : Run) (h : Both Bool) (next k : ℕ) : Type 0 where
   pub numbered : next ≡ first + k
   pub few : next ≤ intervals
   pub held : Held l a b g k
   pub goes_on : x ≡ of_rest l s n first a b g h next k
 
 pub going_begun :
-    (l : LabelSettings) (s : List ℕ) (n first : ℕ) (start : Run) (begun : Both) → Begun l first start → Going l s n first (of_first l s n first start begun) Nothing Nothing start begun (first + 1) 1
+    (l : LabelSettings) (s : List ℕ) (n first : ℕ) (start : Run) (begun : Both Bool) → Begun l first start → Going l s n first (of_first l s n first start begun) Nothing Nothing start begun (first + 1) 1
 unfolding push
 going_begun l s n first start begun w =
     record { numbered = refl; few = omega (arith, w.known); held = held_begun l first start w; goes_on = refl }
 
 -- a loop goes on from what another holds, and makes what that one is to make
 pub going_gone :
-    (l : LabelSettings) (s : List ℕ) (n first : ℕ) (a b : Track) (g : Run) (h : Both) (next k : ℕ) → Gone l first a b g next k →
+    (l : LabelSettings) (s : List ℕ) (n first : ℕ) (a b : Track) (g : Run) (h : Both Bool) (next k : ℕ) → Gone l first a b g next k →
     Going l s n first (of_rest l s n first a b g h next k) a b g h next k
 going_gone l s n first a b g h next k w = record { numbered = w.numbered; few = w.few; held = w.held; goes_on = refl }
 
 pub gone_going :
-    (l : LabelSettings) (s : List ℕ) (n first : ℕ) (x : Gathered) (a b : Track) (g : Run) (h : Both) (next k : ℕ) {a' b' : Track} →
+    (l : LabelSettings) (s : List ℕ) (n first : ℕ) (x : Result Summary Refusal) (a b : Track) (g : Run) (h : Both Bool) (next k : ℕ) {a' b' : Track} →
     Going l s n first x a b g h next k → label_meets l ≡ true → a ≡ a' → b ≡ b' → Gone l first a' b' g next k
 gone_going l s n first x a b g h next k w valid ea eb =
     record { valid = valid; numbered = w.numbered; few = w.few; held = rw (← ea, ← eb) w.held }
 
 pub made_on :
-    (l : LabelSettings) (s : List ℕ) (n first : ℕ) (x : Gathered) (a b : Track) (g : Run) (h : Both) (next k : ℕ) {a' b' : Track} {r : Gathered} →
+    (l : LabelSettings) (s : List ℕ) (n first : ℕ) (x : Result Summary Refusal) (a b : Track) (g : Run) (h : Both Bool) (next k : ℕ) {a' b' : Track} {r : (Result Summary Refusal)} →
     Going l s n first x a b g h next k → a ≡ a' → b ≡ b' → r ≡ of_rest l s n first a' b' g h next k → r ≡ x
 made_on l s n first x a b g h next k w ea eb e = cc w.goes_on
 
 module _
-    (l : LabelSettings) (s : List ℕ) (n first : ℕ) (x : Gathered) (a b : Track) (g : Run) (h : Both) (next k : ℕ)
+    (l : LabelSettings) (s : List ℕ) (n first : ℕ) (x : Result Summary Refusal) (a b : Track) (g : Run) (h : Both Bool) (next k : ℕ)
     (w : Going l s n first x a b g h next k)
-    (v : Interval) (more : k < n) (e : interval_of (record_at s 48 k) ≡ IntervalRead.Valid v) (due : v.number ≡ next)
+    (v : Interval) (more : k < n) (e : interval_of (record_at s 48 k) ≡ Some v) (due : v.number ≡ next)
   where
     pub going_valid : IntervalValid v
     going_valid = interval_valid (record_at s 48 k) v e
@@ -234,7 +235,7 @@ module _
         w.goes_on
         ∙ on_next l first n k next s (push l.n l.p a (toned h.loss g)) (push l.n l.p b (toned h.composite g)) v more e due
 
-    module _ {a' b' : Track} {g' y : Run} {h' m : Both} (ey : y ≡ single (marked_as true v)) (em : m ≡ both_high l (counts_of v)) where
+    module _ {a' b' : Track} {g' y : Run} {h' m : (Both Bool)} (ey : y ≡ single (marked_as true v)) (em : m ≡ both_high l (counts_of v)) where
       pub going_longer :
           beq m.loss h.loss && beq m.composite h.composite ≡ true →
           a' ≡ a → b' ≡ b → g' ≡ glue l.p g y → h' ≡ h → Going l s n first x a' b' g' h' (next + 1) (k + 1)

@@ -1,12 +1,10 @@
 -- What is gathered of the records of a stretch: its summary, or the first record that is at fault; and how loops over the records stand to it.
-use Rattle.std.specs.Prelude.{ℕ, ◌+◌, ◌≤◌, ◌<◌, ◌≡◌, Bool, true, cond, List, map, length}
+use Rattle.std.specs.Prelude.{ℕ, ◌+◌, ◌≤◌, ◌<◌, ◌≡◌, Bool, true, cond, List, map, length, Option, Result, Ok, Err}
 use Rattle.numbers.specs.Limits.{intervals}
 use Rattle.settings.specs.Settings.{label_meets}
 use Rattle.settings.specs.declared.LabelSettings.{LabelSettings}
 use Rattle.intervals.specs.Sequence.{intervals_in, checked}
 use Rattle.intervals.specs.declared.Interval.{Interval}
-use Rattle.intervals.specs.declared.IntervalRead.{IntervalRead}
-use Rattle.intervals.specs.declared.Sequence.{Sequence}
 use Rattle.labels.specs.Stretch.{intervals_of}
 use Rattle.runs.specs.declared.run.Edges.TheVariants.{Split}
 use Rattle.runs.specs.declared.run.Run.{Run}
@@ -18,16 +16,16 @@ use Rattle.tracks.specs.Tracks.{push_all}
 use Rattle.tracks.specs.Valid.{TrackValid}
 use Rattle.summaries.specs.Made.{made_of}
 use Rattle.summaries.specs.declared.Summary.{Summary}
-use Rattle.gathering.specs.declared.Gathered.{Gathered}
 use Rattle.gathering.specs.declared.Several.{Several}
+use Rattle.numbers.specs.declared.refusal.Refusal.{Refusal}
 
 -- where the records are sound
-abbrev pub good_if : Sequence → Summary → Gathered
-good_if Sequence.Sound v = Gathered.Good v
-good_if (Sequence.Refused r) v = Gathered.Bad r
+abbrev pub good_if : Result (Unit {0}) Refusal → Summary → Result Summary Refusal
+good_if (Ok tt) v = Ok v
+good_if (Err r) v = Err r
 
 -- the summary of the records of s, or the first of them that breaks its own rules or is not the next
-unfoldable pub gathered : LabelSettings → ℕ → List ℕ → Gathered
+unfoldable pub gathered : LabelSettings → ℕ → List ℕ → Result Summary Refusal
 gathered l first s = good_if (checked first 0 (intervals_in s)) (made_of l first (intervals_of (intervals_in s)))
 
 -- A loop over the records has made the tracks a and b, of the records from the number `first` on to before `next`: what it makes of the
@@ -43,7 +41,7 @@ made_with l first next a b vs =
       composite = push_all l.n l.p b (map (composite_seen l) vs);
     }
 
-unfoldable pub onwards : LabelSettings → ℕ → ℕ → ℕ → Track → Track → List IntervalRead → Gathered
+unfoldable pub onwards : LabelSettings → ℕ → ℕ → ℕ → Track → Track → List (Option Interval) → Result Summary Refusal
 onwards l first next place a b xs = good_if (checked next place xs) (made_with l first next a b (intervals_of xs))
 
 -- a segment, intervals in a row in which no mark changes, is kept as a run of high marks: it as a run of a track that has this mark in it

@@ -4,7 +4,6 @@
 
 ghost use Rattle.std.specs.Prelude.{◌≡◌, true, ◌+◌, ◌-◌, ◌≤◌};
 ghost use Rattle.numbers.specs.Limits.{intervals};
-ghost use Rattle.numbers.specs.Refusals.{refusal};
 ghost use Rattle.settings.specs.Settings.{label_meets};
 ghost use Rattle.intervals.specs.Sequence.{reads_from};
 ghost use Rattle.tallies.specs.Seen.{marked_as};
@@ -12,23 +11,16 @@ ghost use Rattle.runs.specs.Runs.{single};
 ghost use Rattle.tracks.specs.Tracks.{push};
 ghost use Rattle.gathering.specs.Gathering.{gathered, onwards, toned, several_of, Begun, Gone};
 
-use intervals::{Interval, IntervalRead};
+use intervals::Interval;
 use labels::marks;
-use labels::marks::Both;
 use numbers::refusal::{Fault, Refusal};
 use runs::middles::Middle;
 use runs::run;
-use runs::run::{Edges, Run};
+use rule::Both;
+use runs::run::{Edges, Lengths, Run};
 use settings::LabelSettings;
 use summaries::Summary;
 use tracks::Track;
-
-// A summary, or why there is none.
-#[derive(Clone, Copy)]
-pub enum Gathered {
-    Good(Summary),
-    Bad(Refusal),
-}
 
 // A track of several runs, taken apart.
 #[derive(Clone, Copy)]
@@ -50,19 +42,13 @@ fn toned(mark: bool, g: Run) -> Run
     ensures { result ≡ toned mark g }
 {
     let load = g.load;
-    let edges = if mark { g.edges } else { Edges::Split(0, 0, 0) };
+    let edges = if mark { g.edges } else { Edges::NONE };
     Run {
         mark,
         len: g.len,
         load,
         edges,
     }
-}
-
-fn bad(fault: Fault, place: u64) -> Gathered
-    ensures { result ≡ Gathered.Bad (refusal fault place) }
-{
-    Gathered::Bad(Refusal { fault, place })
 }
 
 // The summary of the `n` records of `s`, those before the `place`-th of which make two tracks of several runs and the segment `start` behind them;
@@ -72,65 +58,60 @@ fn go_on_several(
     s: &[u8],
     n: usize,
     first: u32,
-    a: Several,
-    b: Several,
+    held: Both<Several>,
     start: Run,
-    begun: Both,
+    begun: Both<bool>,
     from: u32,
     place: usize,
-) -> Gathered
-    requires { Gone l first (several_of a) (several_of b) start from place }
-    ensures { result ≡ onwards l first from place (push l.n l.p (several_of a) (toned begun.loss start)) (push l.n l.p (several_of b) (toned begun.composite start)) (reads_from (n - place) s.now place) }
+) -> Result<Summary, Refusal>
+    requires { Gone l first (several_of held.loss) (several_of held.composite) start from place }
+    ensures { result ≡ onwards l first from place (push l.n l.p (several_of held.loss) (toned begun.loss start)) (push l.n l.p (several_of held.composite) (toned begun.composite start)) (reads_from (n - place) s.now place) }
 {
-    let w = l.n as u32;
-    let p = l.p as u32;
-    let loss_first = a.first;
-    let composite_first = b.first;
-    let mut loss = a.middle;
-    let mut loss_last = a.last;
-    let mut composite = b.middle;
-    let mut composite_last = b.last;
+    let by = Lengths {
+        n: l.n as u32,
+        p: l.p as u32,
+    };
+    let loss_first = held.loss.first;
+    let composite_first = held.composite.first;
+    let mut loss = held.loss.middle;
+    let mut loss_last = held.loss.last;
+    let mut composite = held.composite.middle;
+    let mut composite_last = held.composite.last;
     let mut segment = start;
     let mut high = begun;
     let mut due = from;
-    let mut k = place;
-    while k < n {
-        let IntervalRead::Valid(v) = intervals::read_at(s, k) else {
-            return bad(Fault::Field, k as u64);
-        };
+    for k in place..n {
+        let v = intervals::read_at(s, k).ok_or(Fault::Field.at(k as u64))?;
         if v.number != due {
-            return bad(Fault::Order, k as u64);
+            return Err(Fault::Order.at(k as u64));
         }
         let x = run_of(true, v);
         let now = marks::marks(l, v);
         if (now.loss == high.loss) & (now.composite == high.composite) {
-            segment = run::glue(p, segment, x);
+            segment = run::glue(by.p, segment, x);
         } else {
             let r = toned(high.loss, segment);
-            loss = tracks::middle_with(w, p, loss, loss_last, r);
-            loss_last = tracks::last_with(p, loss_last, r);
+            loss = tracks::middle_with(by, loss, loss_last, r);
+            loss_last = tracks::last_with(by.p, loss_last, r);
             let q = toned(high.composite, segment);
-            composite = tracks::middle_with(w, p, composite, composite_last, q);
-            composite_last = tracks::last_with(p, composite_last, q);
+            composite = tracks::middle_with(by, composite, composite_last, q);
+            composite_last = tracks::last_with(by.p, composite_last, q);
             segment = x;
             high = now;
         }
         due += 1;
-        k += 1;
     }
-    Gathered::Good(Summary {
+    Ok(Summary {
         first,
         after: due,
         label: l,
         loss: tracks::push(
-            w,
-            p,
+            by,
             Track::Many(loss_first, loss, loss_last),
             toned(high.loss, segment),
         ),
         composite: tracks::push(
-            w,
-            p,
+            by,
             Track::Many(composite_first, composite, composite_last),
             toned(high.composite, segment),
         ),
@@ -138,71 +119,78 @@ fn go_on_several(
 }
 
 // The summary of the `n` records of `s`, the first of which has these marks and is the segment `start`; or the first record that is at fault.
-fn go_on(l: LabelSettings, s: &[u8], n: usize, first: u32, start: Run, begun: Both) -> Gathered
+fn go_on(
+    l: LabelSettings,
+    s: &[u8],
+    n: usize,
+    first: u32,
+    start: Run,
+    begun: Both<bool>,
+) -> Result<Summary, Refusal>
     requires { Begun l first start }
     ensures { result ≡ onwards l first (first + 1) 1 (Track.One (toned begun.loss start)) (Track.One (toned begun.composite start)) (reads_from (n - 1) s.now 1) }
 {
-    let w = l.n as u32;
-    let p = l.p as u32;
+    let by = Lengths {
+        n: l.n as u32,
+        p: l.p as u32,
+    };
     let mut loss = Track::Nothing;
     let mut composite = Track::Nothing;
     let mut segment = start;
     let mut high = begun;
     let mut next = first + 1;
-    let mut k: usize = 1;
-    while k < n {
-        let held = loss;
-        if let Track::Many(loss_first, loss_middle, loss_last) = held {
+    for k in 1..n {
+        let so_far = loss;
+        if let Track::Many(loss_first, loss_middle, loss_last) = so_far {
             if let Track::Many(composite_first, composite_middle, composite_last) = composite {
-                let a = Several {
-                    first: loss_first,
-                    middle: loss_middle,
-                    last: loss_last,
+                let held = Both {
+                    loss: Several {
+                        first: loss_first,
+                        middle: loss_middle,
+                        last: loss_last,
+                    },
+                    composite: Several {
+                        first: composite_first,
+                        middle: composite_middle,
+                        last: composite_last,
+                    },
                 };
-                let b = Several {
-                    first: composite_first,
-                    middle: composite_middle,
-                    last: composite_last,
-                };
-                return go_on_several(l, s, n, first, a, b, segment, high, next, k);
+                return go_on_several(l, s, n, first, held, segment, high, next, k);
             }
         }
-        let IntervalRead::Valid(v) = intervals::read_at(s, k) else {
-            return bad(Fault::Field, k as u64);
-        };
+        let v = intervals::read_at(s, k).ok_or(Fault::Field.at(k as u64))?;
         if v.number != next {
-            return bad(Fault::Order, k as u64);
+            return Err(Fault::Order.at(k as u64));
         }
         let x = run_of(true, v);
         let m = marks::marks(l, v);
         if (m.loss == high.loss) & (m.composite == high.composite) {
-            segment = run::glue(p, segment, x);
+            segment = run::glue(by.p, segment, x);
         } else {
-            loss = tracks::push(w, p, loss, toned(high.loss, segment));
-            composite = tracks::push(w, p, composite, toned(high.composite, segment));
+            loss = tracks::push(by, loss, toned(high.loss, segment));
+            composite = tracks::push(by, composite, toned(high.composite, segment));
             segment = x;
             high = m;
         }
         next += 1;
-        k += 1;
     }
-    Gathered::Good(Summary {
+    Ok(Summary {
         first,
         after: next,
         label: l,
-        loss: tracks::push(w, p, loss, toned(high.loss, segment)),
-        composite: tracks::push(w, p, composite, toned(high.composite, segment)),
+        loss: tracks::push(by, loss, toned(high.loss, segment)),
+        composite: tracks::push(by, composite, toned(high.composite, segment)),
     })
 }
 
 // The summary of the records of `s`, or the first record that is at fault.
-pub fn gather(l: LabelSettings, s: &[u8], first: u32) -> Gathered
+pub fn gather(l: LabelSettings, s: &[u8], first: u32) -> Result<Summary, Refusal>
     requires { (label_meets l ≡ true) × (first ≤ intervals) }
     ensures { result ≡ gathered l first s.now }
 {
     let n = s.len() / 48;
     if n == 0 {
-        return Gathered::Good(Summary {
+        return Ok(Summary {
             first,
             after: first,
             label: l,
@@ -210,11 +198,9 @@ pub fn gather(l: LabelSettings, s: &[u8], first: u32) -> Gathered
             composite: Track::Nothing,
         });
     }
-    let IntervalRead::Valid(v) = intervals::read_at(s, 0) else {
-        return bad(Fault::Field, 0);
-    };
+    let v = intervals::read_at(s, 0).ok_or(Fault::Field)?;
     if v.number != first {
-        return bad(Fault::Order, 0);
+        return Err(Fault::Order.at(0));
     }
     go_on(l, s, n, first, run_of(true, v), marks::marks(l, v))
 }

@@ -3,19 +3,19 @@ use Prim.Native.Nat.{ℕ, ◌<◌, ◌^◌}
 use mathlib.Core.List.{List}
 use mathlib.Core.Path.{◌≡◌, ap, sym, ◌∙◌}
 use native.Mathlib.Omega.{arith}
+use Rattle.std.specs.Prelude.{Result, Err}
 use Rattle.labels.proofs.Places.{labels_place}
 use Rattle.labels.specs.Stretch.{Outcome, outcome, labels_of}
-use Rattle.labels.specs.declared.stretch.Labelled.{Labelled}
 use Rattle.numbers.specs.Limits.{intervals}
 use Rattle.numbers.specs.declared.refusal.Refusal.{Refusal}
 use Rattle.interval_words.specs.LabelList.{word_for, LabelsLeft}
 
 module _ (s r out : List ℕ) (at : ℕ) where
-  pub place_fits : {after : List ℕ} (a : Labelled) (x : Refusal) → outcome a after ≡ labels_of s r out at → a ≡ Labelled.Refused x → x.place < 2 ^ 32
+  pub place_fits : {after : List ℕ} (a : Result (Unit {0}) Refusal) (x : Refusal) → outcome a after ≡ labels_of s r out at → a ≡ Err x → x.place < 2 ^ 32
   unfolding intervals
   place_fits a x o e = omega (arith, labels_place s r out at x (sym (ap (λ (p : Outcome). p.answer) o) ∙ e))
 
-  pub as_word : {after : List ℕ} (a : Labelled) (n : ℕ) → outcome a after ≡ labels_of s r out at → n ≡ word_for a → LabelsLeft s r out at n after
+  pub as_word : {after : List ℕ} (a : Result (Unit {0}) Refusal) (n : ℕ) → outcome a after ≡ labels_of s r out at → n ≡ word_for a → LabelsLeft s r out at n after
   as_word a n o e = record { word = e ∙ ap (λ (p : Outcome). word_for p.answer) o; left = ap (λ (p : Outcome). p.buffer) o }
 
 -- two results, with the buffers that they leave, that the contract of `mip_labels` allows coincide

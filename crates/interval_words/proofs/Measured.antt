@@ -9,24 +9,22 @@ use native.Mathlib.Omega.{arith}
 use lib.ListN.{length}
 use lib.Dec.{leb, ltb, eqb}
 use borrow.Author.Tests.{le-ltb, lt-ltb}
+use Rattle.std.specs.Prelude.{Option, Some, None, Result, Ok, Err}
 use Rattle.numbers.proofs.Parts.{each_many}
 use Rattle.frames.specs.Frame.{frame_of}
 use Rattle.measure.specs.Outcome.{Frames, sound, faulty, with, unless, frames_in, reads_from, length_of, judged_of, refuse_if, judged_frames, judged_count, judged_settings, judged, answer_of, Outcome}
-use Rattle.measure.specs.declared.Answer.{Answer}
-use Rattle.measure.specs.declared.Judged.{Judged}
 use Rattle.numbers.specs.Limits.{frames, intervals}
 use Rattle.numbers.specs.Many.{count_of}
 use Rattle.numbers.specs.Refusals.{refusal}
 use Rattle.numbers.specs.Room.{has_room}
-use Rattle.numbers.specs.declared.many.Counted.{Counted}
 use Rattle.numbers.specs.declared.refusal.Fault.{Fault}
 use Rattle.numbers.specs.declared.refusal.Refusal.{Refusal}
 use Rattle.settings.specs.Settings.{settings_of}
 use Rattle.settings.specs.declared.LabelSettings.{LabelSettings}
-use Rattle.settings.specs.declared.SettingsRead.{SettingsRead}
 use Rattle.frames.specs.declared.Frame.{Frame}
-use Rattle.frames.specs.declared.FrameRead.{FrameRead}
 use Rattle.interval_words.specs.FrameList.{word_for, IntervalLeft}
+use Rattle.intervals.specs.declared.Interval.{Interval}
+use Rattle.settings.specs.declared.Settings.{Settings}
 
 -- the place of a fault, 0 where there is none
 
@@ -44,11 +42,11 @@ unfolding fault_place
 unless_place true r fs m h k = k
 unless_place false r fs m h k = h
 
-frames_place : (from to place earliest : ℕ) (reads : List FrameRead) → fault_place (frames_in from to place earliest reads) ≤ place + length reads
+frames_place : (from to place earliest : ℕ) (reads : List (Option Frame)) → fault_place (frames_in from to place earliest reads) ≤ place + length reads
 unfolding fault_place frames_in
 frames_place from to place earliest [] = omega arith
-frames_place from to place earliest (FrameRead.Invalid ∷ rest) = omega arith
-frames_place from to place earliest (FrameRead.Valid f ∷ rest) =
+frames_place from to place earliest (None ∷ rest) = omega arith
+frames_place from to place earliest (Some f ∷ rest) =
     let here : place ≤ place + suc (length rest) = omega arith in
     let more : suc place + length rest ≤ place + suc (length rest) = omega arith in
     unless_place (leb from f.time && ltb f.time to) (refusal Fault.Outside place)
@@ -58,16 +56,16 @@ frames_place from to place earliest (FrameRead.Valid f ∷ rest) =
     (with_place f (frames_in from to (suc place) (f.time + 1) rest) (place + suc (length rest))
     (le_trans (frames_place from to (suc place) (f.time + 1) rest) more)))
 
-place_of : Judged → ℕ
-place_of (Judged.Good v) = 0
-place_of (Judged.Bad r) = r.place
+place_of : Result Interval Refusal → ℕ
+place_of (Ok v) = 0
+place_of (Err r) = r.place
 
 of_place : (l : LabelSettings) (k : ℕ) (maintenance : Bool) (fs : Frames) (m : ℕ) → fault_place fs ≤ m → place_of (judged_of l k maintenance fs) ≤ m
 unfolding fault_place place_of
 of_place l k maintenance (sound fs) m h = omega arith
 of_place l k maintenance (faulty r) m h = h
 
-refuse_place : (b : Bool) (f : Fault) (j : Judged) (m : ℕ) → place_of j ≤ m → place_of (refuse_if b f j) ≤ m
+refuse_place : (b : Bool) (f : Fault) (j : Result Interval Refusal) (m : ℕ) → place_of j ≤ m → place_of (refuse_if b f j) ≤ m
 unfolding place_of
 refuse_place true f j m h = omega arith
 refuse_place false f j m h = h
@@ -87,28 +85,28 @@ judged_place l n number maintenance s =
       | no h ↦ rw (lt-ltb frames n (omega arith)) (omega arith)
     ]
 
-count_place : (l : LabelSettings) (o : Counted) (room : Bool) (number maintenance : ℕ) (s : List ℕ) → place_of (judged_count l o room number maintenance s) ≤ frames
+count_place : (l : LabelSettings) (o : Option ℕ) (room : Bool) (number maintenance : ℕ) (s : List ℕ) → place_of (judged_count l o room number maintenance s) ≤ frames
 unfolding place_of
-count_place l Counted.Ragged room number maintenance s = omega arith
-count_place l (Counted.Whole n) false number maintenance s = omega arith
-count_place l (Counted.Whole n) true number maintenance s = judged_place l n number maintenance s
+count_place l None room number maintenance s = omega arith
+count_place l (Some n) false number maintenance s = omega arith
+count_place l (Some n) true number maintenance s = judged_place l n number maintenance s
 
-read_place : (o : SettingsRead) (room : Bool) (number maintenance : ℕ) (s : List ℕ) → place_of (judged_settings o room number maintenance s) ≤ frames
+read_place : (o : Option Settings) (room : Bool) (number maintenance : ℕ) (s : List ℕ) → place_of (judged_settings o room number maintenance s) ≤ frames
 unfolding place_of
-read_place SettingsRead.Invalid room number maintenance s = omega arith
-read_place (SettingsRead.Valid v) room number maintenance s = count_place v.label (count_of (length s) 16) room number maintenance s
+read_place None room number maintenance s = omega arith
+read_place (Some v) room number maintenance s = count_place v.label (count_of (length s) 16) room number maintenance s
 
-answer_place : Answer → ℕ
-answer_place Answer.Written = 0
-answer_place (Answer.Refused r) = r.place
+answer_place : Result (Unit {0}) Refusal → ℕ
+answer_place (Ok tt) = 0
+answer_place (Err r) = r.place
 
-answer_place_lem : (j : Judged) → answer_place (answer_of j) ≡ place_of j
+answer_place_lem : (j : Result Interval Refusal) → answer_place (answer_of j) ≡ place_of j
 unfolding answer_place place_of
-answer_place_lem (Judged.Good v) = refl
-answer_place_lem (Judged.Bad r) = refl
+answer_place_lem (Ok v) = refl
+answer_place_lem (Err r) = refl
 
 module _ (settings s : List ℕ) (number maintenance : ℕ) (out : List ℕ) (at : ℕ) where
-  pub place_fits : {after : List ℕ} (a : Answer) (r : Refusal) → Outcome settings s number maintenance out at a after → a ≡ Answer.Refused r → r.place < 2 ^ 32
+  pub place_fits : {after : List ℕ} (a : Result (Unit {0}) Refusal) (r : Refusal) → Outcome settings s number maintenance out at a after → a ≡ Err r → r.place < 2 ^ 32
   unfolding answer_place judged frames
   place_fits a r o e =
       let same : r.place ≡ place_of (judged settings s number maintenance (length out) at) =
@@ -116,7 +114,7 @@ module _ (settings s : List ℕ) (number maintenance : ℕ) (out : List ℕ) (at
       omega (arith, same, read_place (settings_of settings) (has_room (length out) at 48) number maintenance s)
 
   pub as_word :
-      {after : List ℕ} (a : Answer) (n : ℕ) → Outcome settings s number maintenance out at a after → n ≡ word_for a → IntervalLeft settings s number maintenance out at n after
+      {after : List ℕ} (a : Result (Unit {0}) Refusal) (n : ℕ) → Outcome settings s number maintenance out at a after → n ≡ word_for a → IntervalLeft settings s number maintenance out at n after
   as_word a n o e = record { word = e ∙ ap word_for o.answered; left = o.left }
 
 -- two results, with the buffers that they leave, that the contract of `mip_interval` allows coincide

@@ -1,12 +1,12 @@
 -- What `mip_labels` answers and what it leaves in the caller's buffer.
-use Rattle.std.specs.Prelude.{ℕ, List, ◌≡◌}
+use Rattle.std.specs.Prelude.{ℕ, List, ◌≡◌, Result, Ok, Err}
 use Rattle.labels.specs.Stretch.{labels_of}
-use Rattle.labels.specs.declared.stretch.Labelled.{Labelled}
 use Rattle.words.specs.Word.{word_of}
+use Rattle.numbers.specs.declared.refusal.Refusal.{Refusal}
 
-abbrev pub word_for : Labelled → ℕ
-word_for Labelled.Written = 0
-word_for (Labelled.Refused r) = word_of r
+abbrev pub word_for : Result (Unit {0}) Refusal → ℕ
+word_for (Ok tt) = 0
+word_for (Err r) = word_of r
 
 -- the outcome of `labels` as the function's result and the buffer that it leaves
 pub record LabelsLeft (settings s out : List ℕ) (at result : ℕ) (after : List ℕ) : Type 0 where

@@ -11,6 +11,7 @@ use lib.ListN.{length}
 use lib.Seq.{sets}
 use lib.Dec.{ltb, eqb}
 use borrow.Author.Tests.{leb-true, ltb-true, eqb-true, eqb-false}
+use Rattle.std.specs.Prelude.{Some}
 use Rattle.numbers.specs.Bytes.{bytes_of}
 use Rattle.numbers.specs.Limits.{intervals, frames, largest_delay}
 use Rattle.numbers.specs.Rules.{all_met}
@@ -31,7 +32,6 @@ use Rattle.intervals.specs.Interval.{
 }
 use Rattle.numbers.proofs.Rules.{rule_met}
 use Rattle.intervals.specs.declared.Interval.{Interval}
-use Rattle.intervals.specs.declared.IntervalRead.{IntervalRead}
 
 -- the facts of a valid interval; those on delays hold with nothing delivered too
 pub record IntervalValid (v : Interval) : Type 0 where
@@ -101,15 +101,15 @@ interval_facts v e h =
 
 -- an interval that is read is what stands in the bytes, and the bytes meet every rule
 
-taken_out : (t : Bool) (w v : Interval) → valid_if t w ≡ IntervalRead.Valid v → (t ≡ true) × (w ≡ v)
+taken_out : (t : Bool) (w v : Interval) → valid_if t w ≡ Some v → (t ≡ true) × (w ≡ v)
 taken_out true w v e = (refl, (cc))
 taken_out false w v e = let z : ◌≡◌ {A = ℕ} 0 1 = cc in absurd (omega arith)
 
-pub interval_read : (s : List ℕ) (v : Interval) → interval_of s ≡ IntervalRead.Valid v → (all_met (interval_rules s) ≡ true) × (interval_in s ≡ v)
+pub interval_read : (s : List ℕ) (v : Interval) → interval_of s ≡ Some v → (all_met (interval_rules s) ≡ true) × (interval_in s ≡ v)
 unfolding interval_of
 interval_read s v e = taken_out (all_met (interval_rules s)) (interval_in s) v e
 
-pub interval_valid : (s : List ℕ) (v : Interval) → interval_of s ≡ IntervalRead.Valid v → IntervalValid v
+pub interval_valid : (s : List ℕ) (v : Interval) → interval_of s ≡ Some v → IntervalValid v
 unfolding interval_rules
 interval_valid s v e =
     let r = interval_read s v e in

@@ -12,6 +12,7 @@ use native.Mathlib.Omega.{arith}
 use lib.ListN.{length, get_or}
 use lib.Dec.{leb, eqb}
 use borrow.Author.Tests.{leb-true, eqb-true, eqb-false, eq-eqb}
+use Rattle.std.specs.Prelude.{Some}
 use Rattle.numbers.specs.Bytes.{number_at, part, bytes_of, are_zero, Bytes}
 use Rattle.numbers.specs.Limits.{frames, largest_delay}
 use Rattle.numbers.proofs.Rules.{rule_met}
@@ -20,7 +21,6 @@ use Rattle.numbers.proofs.Numbers.{number_of_bytes, part_append, part_whole, par
 use Rattle.numbers.proofs.Zeros.{zero_bytes}
 use Rattle.intervals.specs.Interval.{interval_in, delivered_in, counts_meet, delays_meet, interval_rules, interval_of, count_bytes, delay_bytes, interval_bytes}
 use Rattle.intervals.specs.declared.Interval.{Interval}
-use Rattle.intervals.specs.declared.IntervalRead.{IntervalRead}
 use Rattle.intervals.proofs.IntervalRecord.{IntervalValid, interval_facts, interval_read, length_interval}
 
 -- the sum of an interval that meets the rules fits its field
@@ -68,7 +68,7 @@ written_spare : (v : Interval) → are_zero 7 (interval_bytes v) 41 ≡ true
 unfolding interval_bytes count_bytes delay_bytes bytes_of are_zero
 written_spare v = refl
 
-pub read_write : (v : Interval) → counts_meet v ≡ true → delays_meet v ≡ true → interval_of (interval_bytes v) ≡ IntervalRead.Valid v
+pub read_write : (v : Interval) → counts_meet v ≡ true → delays_meet v ≡ true → interval_of (interval_bytes v) ≡ Some v
 unfolding interval_of interval_rules
 read_write v counts delays =
     let e : interval_in (interval_bytes v) ≡ v = written_values v (interval_facts v counts delays) in
@@ -93,7 +93,7 @@ unfolding delay_bytes interval_in part
 delays_back s h flag spare =
     rw (part_bytes 8 s 24 h, part_bytes 4 s 32 h, part_bytes 4 s 36 h, flag_bytes (get_or s 40 0) (eqb (get_or s 40 0) 1) refl flag, zero_bytes 7 s 41 spare)
 
-pub write_read : (s : List ℕ) (v : Interval) → Bytes s → interval_of s ≡ IntervalRead.Valid v → interval_bytes v ≡ s
+pub write_read : (s : List ℕ) (v : Interval) → Bytes s → interval_of s ≡ Some v → interval_bytes v ≡ s
 unfolding interval_bytes interval_rules
 write_read s v h e =
     let r = interval_read s v e in

@@ -6,6 +6,7 @@ use Prim.Native.Nat.{ℕ, suc, ◌+◌, ◌-◌, ◌/◌, ◌≤◌, ◌<◌}
 use native.Mathlib.Omega.{arith}
 use lib.ListN.{length}
 use borrow.Author.Tests.{eq-eqb, ne_eqb}
+use Rattle.std.specs.Prelude.{Some, None, Ok, Err}
 use Rattle.numbers.specs.Many.{record_at}
 use Rattle.numbers.specs.Refusals.{refusal}
 use Rattle.numbers.specs.declared.refusal.Fault.{Fault}
@@ -13,8 +14,6 @@ use Rattle.numbers.proofs.Parts.{each_next, each_done}
 use Rattle.intervals.specs.Interval.{interval_of}
 use Rattle.intervals.specs.Sequence.{reads_from, intervals_in, checked}
 use Rattle.intervals.specs.declared.Interval.{Interval}
-use Rattle.intervals.specs.declared.IntervalRead.{IntervalRead}
-use Rattle.intervals.specs.declared.Sequence.{Sequence}
 
 -- what is left to read at k of n
 
@@ -31,24 +30,24 @@ reads_done n k s h = each_done interval_of 48 s n k h
 -- what the record at k does to the check
 
 module _ (n k next : ℕ) (s : List ℕ) where
-  pub check_done : n ≤ k → checked next k (reads_from (n - k) s k) ≡ Sequence.Sound
+  pub check_done : n ≤ k → checked next k (reads_from (n - k) s k) ≡ Ok tt
   unfolding checked
   check_done h = rw (reads_done n k s h)
 
   pub check_invalid :
-      k < n → interval_of (record_at s 48 k) ≡ IntervalRead.Invalid → checked next k (reads_from (n - k) s k) ≡ Sequence.Refused (refusal Fault.Field k)
+      k < n → interval_of (record_at s 48 k) ≡ None → checked next k (reads_from (n - k) s k) ≡ Err (refusal Fault.Field k)
   unfolding checked
   check_invalid h e = rw (reads_next n k s h, e)
 
   pub check_disordered :
       (v : Interval) →
-      k < n → interval_of (record_at s 48 k) ≡ IntervalRead.Valid v → (v.number ≡ next → ⊥) → checked next k (reads_from (n - k) s k) ≡ Sequence.Refused (refusal Fault.Order k)
+      k < n → interval_of (record_at s 48 k) ≡ Some v → (v.number ≡ next → ⊥) → checked next k (reads_from (n - k) s k) ≡ Err (refusal Fault.Order k)
   unfolding checked
   check_disordered v h e other = rw (reads_next n k s h, e, ne_eqb v.number next other)
 
   pub check_next :
       (v : Interval) →
-      k < n → interval_of (record_at s 48 k) ≡ IntervalRead.Valid v → v.number ≡ next →
+      k < n → interval_of (record_at s 48 k) ≡ Some v → v.number ≡ next →
       checked next k (reads_from (n - k) s k) ≡ checked (v.number + 1) (k + 1) (reads_from (n - (k + 1)) s (k + 1))
   unfolding checked
   check_next v h e same =

@@ -1,10 +1,9 @@
 -- The interval record of document 01, 48 bytes.
-use Rattle.std.specs.Prelude.{ℕ, ◌-◌, ◌*◌, Bool, true, false, ◌&&◌, ◌||◌, cond, List, [], ◌∷◌, ◌++◌, length, get_or, leb, ltb, eqb}
+use Rattle.std.specs.Prelude.{ℕ, ◌-◌, ◌*◌, Bool, true, false, ◌&&◌, ◌||◌, cond, List, [], ◌∷◌, ◌++◌, length, get_or, leb, ltb, eqb, Option, Some, None}
 use Rattle.numbers.specs.Bytes.{number_at, are_zero, bytes_of}
 use Rattle.numbers.specs.Limits.{intervals, frames, largest_delay}
 use Rattle.numbers.specs.Rules.{all_met}
 use Rattle.intervals.specs.declared.Interval.{Interval}
-use Rattle.intervals.specs.declared.IntervalRead.{IntervalRead}
 
 -- where each value stands
 unfoldable pub interval_in : List ℕ → Interval
@@ -66,12 +65,12 @@ interval_rules s =
     ∷ are_zero 7 s 41
     ∷ []
 
-abbrev pub valid_if : Bool → Interval → IntervalRead
-valid_if true v = IntervalRead.Valid v
-valid_if false v = IntervalRead.Invalid
+abbrev pub valid_if : Bool → Interval → Option Interval
+valid_if true v = Some v
+valid_if false v = None
 
 -- what the bytes say, if they meet every rule
-unfoldable pub interval_of : List ℕ → IntervalRead
+unfoldable pub interval_of : List ℕ → Option Interval
 interval_of s = valid_if (all_met (interval_rules s)) (interval_in s)
 
 -- the bytes of the values: the counts, then the delays, the maintenance flag and the spare bytes

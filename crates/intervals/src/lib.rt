@@ -1,7 +1,7 @@
 // The interval record, 48 bytes: its values, its rules, read and written; and a slice of many of them.
 #![tactic(auto)]
 
-ghost use Rattle.std.specs.Prelude.{◌≡◌, ◌-◌, ◌*◌, cond, length};
+ghost use Rattle.std.specs.Prelude.{◌≡◌, ◌-◌, length};
 ghost use Rattle.std.proofs.lemmas.List.Edits.{sets};
 ghost use Rattle.numbers.specs.Many.{record_at};
 ghost use Rattle.intervals.specs.Sequence.{intervals_in, checked};
@@ -28,12 +28,6 @@ pub struct Interval {
     pub maintenance: bool,
 }
 
-#[derive(Clone, Copy)]
-pub enum IntervalRead {
-    Valid(Interval),
-    Invalid,
-}
-
 // The values that stand in 48 bytes.
 fn interval_in(s: &[u8]) -> Interval
     requires { length s.now ≡ 48 }
@@ -57,14 +51,7 @@ fn interval_in(s: &[u8]) -> Interval
 pub fn delivered(v: Interval) -> u32
     ensures { result ≡ v.sent - v.lost }
 {
-    if v.lost <= v.sent { v.sent - v.lost } else { 0 }
-}
-
-// The whole product.
-fn times(a: u32, b: u32) -> u64
-    ensures { result ≡ a * b }
-{
-    (a as u64) * (b as u64)
+    v.sent.saturating_sub(v.lost)
 }
 
 // Whether the counts meet document 01's rules.
@@ -84,28 +71,26 @@ fn counts_meet(v: Interval) -> bool
 fn delays_meet(v: Interval) -> bool
     ensures { result ≡ delays_meet v }
 {
-    let got = delivered(v);
-    let low = times(v.least, got);
-    let high = times(v.most, got);
+    let got = delivered(v) as u64;
     ((got != 0) | (v.most == 0))
         & (v.least <= v.most)
         & (v.most <= limits::LARGEST_DELAY)
-        & (low <= v.sum)
-        & (v.sum <= high)
+        & (v.least as u64 * got <= v.sum)
+        & (v.sum <= v.most as u64 * got)
 }
 
 // The interval in `s`, if it is 48 bytes and meets every rule. Maintenance and the spare bytes are one word, 0 or 1.
-pub fn read(s: &[u8]) -> IntervalRead
+pub fn read(s: &[u8]) -> Option<Interval>
     ensures { result ≡ interval_of s.now }
 {
     if s.len() != 48 {
-        return IntervalRead::Invalid;
+        return None;
     }
     let v = interval_in(s);
     if counts_meet(v) & delays_meet(v) & (known::get_u64(s, 40) <= 1) {
-        IntervalRead::Valid(v)
+        Some(v)
     } else {
-        IntervalRead::Invalid
+        None
     }
 }
 
@@ -121,13 +106,6 @@ fn put_counts(part: &mut [u8], v: Interval)
     bytes::put_u32(part, 20, v.jumpy);
 }
 
-// A flag as a number.
-fn flag(b: bool) -> u64
-    ensures { result ≡ cond b 1 0 }
-{
-    if b { 1 } else { 0 }
-}
-
 // The delays, the maintenance flag and the spare bytes put behind the counts.
 fn put_delays(part: &mut [u8], v: Interval)
     ensures { part.new ≡ sets part.old 24 (delay_bytes v) }
@@ -135,7 +113,7 @@ fn put_delays(part: &mut [u8], v: Interval)
     bytes::put_u64(part, 24, v.sum);
     bytes::put_u32(part, 32, v.least);
     bytes::put_u32(part, 36, v.most);
-    bytes::put_u64(part, 40, flag(v.maintenance));
+    bytes::put_u64(part, 40, v.maintenance as u64);
 }
 
 // The interval's 48 bytes put into `part`.
@@ -147,42 +125,24 @@ pub fn put(part: &mut [u8], v: Interval)
 }
 
 // The `k`-th record of `s`; a record that `s` does not hold is not valid.
-pub fn read_at(s: &[u8], k: usize) -> IntervalRead
+pub fn read_at(s: &[u8], k: usize) -> Option<Interval>
     ensures { result ≡ interval_of (record_at s.now 48 k) }
 {
     read(many::part(s, 48, k))
 }
 
-#[derive(Clone, Copy)]
-pub enum Sequence {
-    // every record is valid and the next after the one before it
-    Sound,
-    Refused(Refusal),
-}
-
 // Whether the whole records of `s` are valid and numbered consecutively from `first`; else the first that is not.
-pub fn check(s: &[u8], first: u64) -> Sequence
+pub fn check(s: &[u8], first: u64) -> Result<(), Refusal>
     ensures { result ≡ checked first 0 (intervals_in s.now) }
 {
-    let n = s.len() / 48;
-    let mut k: usize = 0;
     let mut next = first;
-    while k < n {
-        let IntervalRead::Valid(v) = read_at(s, k) else {
-            return Sequence::Refused(Refusal {
-                fault: Fault::Field,
-                place: k as u64,
-            });
-        };
+    for k in 0..s.len() / 48 {
+        let v = read_at(s, k).ok_or(Fault::Field.at(k as u64))?;
         let number = v.number as u64;
         if number != next {
-            return Sequence::Refused(Refusal {
-                fault: Fault::Order,
-                place: k as u64,
-            });
+            return Err(Fault::Order.at(k as u64));
         }
-        k += 1;
         next = number + 1;
     }
-    Sequence::Sound
+    Ok(())
 }

@@ -8,6 +8,7 @@ use Prim.Native.Nat.{ℕ, ◌+◌, ◌-◌}
 use native.Mathlib.Omega.{arith}
 use lib.ListN.{length}
 use borrow.Author.Tests.{eq-eqb}
+use Rattle.std.specs.Prelude.{Some, Result, Ok}
 use Rattle.numbers.specs.Bytes.{placed}
 use Rattle.numbers.specs.Room.{has_room}
 use Rattle.numbers.specs.declared.refusal.Fault.{Fault}
@@ -21,11 +22,10 @@ use Rattle.tracks.proofs.Keeping as keeping
 use Rattle.tracks.proofs.Serving.{count_join}
 use Rattle.summaries.specs.Stored.{summary_of, summary_bytes}
 use Rattle.summaries.specs.declared.Summary.{Summary}
-use Rattle.summaries.specs.declared.SummaryRead.{SummaryRead}
 use Rattle.summaries.proofs.RoundTrip.{read_write, read_whole}
 use Rattle.summaries.proofs.Validity.{SummaryValid, summary_valid}
 use Rattle.joining.specs.Joining.{joined_of, Adjoining, good, unless, judged, answer_of, left_of, Outcome}
-use Rattle.joining.specs.declared.Joined.{Joined}
+use Rattle.numbers.specs.declared.refusal.Refusal.{Refusal}
 
 -- a join is valid
 
@@ -65,7 +65,7 @@ module _ (a b : Summary) (h : Adjoining a b) where
         counts = counts_joined;
       }
 
-  pub join_reads_back : summary_of (summary_bytes (joined_of a b)) ≡ SummaryRead.Valid (joined_of a b)
+  pub join_reads_back : summary_of (summary_bytes (joined_of a b)) ≡ Some (joined_of a b)
   join_reads_back = read_write (joined_of a b) join_valid
 
 -- what is joined is joined again
@@ -96,7 +96,7 @@ join_adjoins_left a b c h k =
 
 -- never refused
 
-module _ (left right : List ℕ) (a b : Summary) (read_left : summary_of left ≡ SummaryRead.Valid a) (read_right : summary_of right ≡ SummaryRead.Valid b)
+module _ (left right : List ℕ) (a b : Summary) (read_left : summary_of left ≡ Some a) (read_right : summary_of right ≡ Some b)
     (settings : a.label ≡ b.label) (numbers : a.after ≡ b.first) where
   same : same_label a.label b.label ≡ true
   same = subst (λ l. same_label a.label l ≡ true) settings (same_label_self a.label)
@@ -111,9 +111,9 @@ module _ (left right : List ℕ) (a b : Summary) (read_left : summary_of left �
 
   -- so the operation writes the join
   pub always_written :
-      (out : List ℕ) (at : ℕ) {answer : Joined} {after : List ℕ} →
+      (out : List ℕ) (at : ℕ) {answer : (Result (Unit {0}) Refusal)} {after : List ℕ} →
       has_room (length out) at 1024 ≡ true → Outcome left right out at answer after →
-      (answer ≡ Joined.Written) × (after ≡ placed out at (summary_bytes (joined_of a b)))
+      (answer ≡ Ok tt) × (after ≡ placed out at (summary_bytes (joined_of a b)))
   always_written out at room o =
       let e = never_refused (length out) at room in
       (o.answered ∙ ap answer_of e, o.left_in ∙ ap (λ j. left_of j out at) e)

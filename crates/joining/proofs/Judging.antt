@@ -7,6 +7,7 @@ use Prim.Native.Nat.{ℕ, ◌-◌}
 use native.Mathlib.Omega.{arith}
 use lib.ListN.{length}
 use borrow.Author.Tests.{eq-eqb, ne_eqb}
+use Rattle.std.specs.Prelude.{Some, None, Result, Ok, Err}
 use Rattle.numbers.specs.Bytes.{placed}
 use Rattle.numbers.specs.Refusals.{refusal}
 use Rattle.numbers.specs.Room.{has_room}
@@ -17,10 +18,9 @@ use Rattle.tracks.specs.Valid.{JoinFits, TrackValid}
 use Rattle.tracks.specs.declared.Track.{Track}
 use Rattle.summaries.specs.Stored.{summary_of, summary_bytes}
 use Rattle.summaries.specs.declared.Summary.{Summary}
-use Rattle.summaries.specs.declared.SummaryRead.{SummaryRead}
 use Rattle.summaries.proofs.Validity.{SummaryValid, summary_valid}
 use Rattle.joining.specs.Joining.{joined_of, Adjoining, Judged, good, bad, judged, answer_of, left_of, Outcome}
-use Rattle.joining.specs.declared.Joined.{Joined}
+use Rattle.numbers.specs.declared.refusal.Refusal.{Refusal}
 
 -- the tracks of two adjoining summaries fit together
 
@@ -54,45 +54,45 @@ composite_fits a b h =
 
 module _ (left right out : List ℕ) (at : ℕ) where
   owed :
-      {answer : Joined} {after : List ℕ} (j : Judged) →
+      {answer : (Result (Unit {0}) Refusal)} {after : List ℕ} (j : Judged) →
       judged left right (length out) at ≡ j → answer ≡ answer_of j → after ≡ left_of j out at → Outcome left right out at answer after
   owed j e a b = record { answered = a ∙ ap answer_of (sym e); left_in = b ∙ ap (λ k. left_of k out at) (sym e) }
 
   pub short_left :
-      {answer : Joined} → (length left ≡ 1024 → ⊥) → answer ≡ Joined.Refused (refusal Fault.Length 0) → Outcome left right out at answer out
+      {answer : (Result (Unit {0}) Refusal)} → (length left ≡ 1024 → ⊥) → answer ≡ Err (refusal Fault.Length 0) → Outcome left right out at answer out
   unfolding judged
   short_left h a = owed (bad (refusal Fault.Length 0)) (rw (ne_eqb (length left) 1024 h)) a refl
 
   module _ (whole_left : length left ≡ 1024) where
     pub short_right :
-        {answer : Joined} → (length right ≡ 1024 → ⊥) → answer ≡ Joined.Refused (refusal Fault.Length 0) → Outcome left right out at answer out
+        {answer : (Result (Unit {0}) Refusal)} → (length right ≡ 1024 → ⊥) → answer ≡ Err (refusal Fault.Length 0) → Outcome left right out at answer out
     unfolding judged
     short_right h a = owed (bad (refusal Fault.Length 0)) (rw (eq-eqb (length left) 1024 whole_left, ne_eqb (length right) 1024 h)) a refl
 
     module _ (whole_right : length right ≡ 1024) where
       pub no_room :
-          {answer : Joined} → has_room (length out) at 1024 ≡ false → answer ≡ Joined.Refused (refusal Fault.Room 0) → Outcome left right out at answer out
+          {answer : (Result (Unit {0}) Refusal)} → has_room (length out) at 1024 ≡ false → answer ≡ Err (refusal Fault.Room 0) → Outcome left right out at answer out
       unfolding judged
       no_room h a =
           owed (bad (refusal Fault.Room 0)) (rw (eq-eqb (length left) 1024 whole_left, eq-eqb (length right) 1024 whole_right, h)) a refl
 
       module _ (room : has_room (length out) at 1024 ≡ true) where
         pub bad_left :
-            {answer : Joined} → summary_of left ≡ SummaryRead.Invalid → answer ≡ Joined.Refused (refusal Fault.Field 0) → Outcome left right out at answer out
+            {answer : (Result (Unit {0}) Refusal)} → summary_of left ≡ None → answer ≡ Err (refusal Fault.Field 0) → Outcome left right out at answer out
         unfolding judged
         bad_left h a =
             owed (bad (refusal Fault.Field 0)) (rw (eq-eqb (length left) 1024 whole_left, eq-eqb (length right) 1024 whole_right, room, h)) a refl
 
-        module _ (x : Summary) (read_left : summary_of left ≡ SummaryRead.Valid x) where
+        module _ (x : Summary) (read_left : summary_of left ≡ Some x) where
           pub bad_right :
-              {answer : Joined} → summary_of right ≡ SummaryRead.Invalid → answer ≡ Joined.Refused (refusal Fault.Field 1) → Outcome left right out at answer out
+              {answer : (Result (Unit {0}) Refusal)} → summary_of right ≡ None → answer ≡ Err (refusal Fault.Field 1) → Outcome left right out at answer out
           unfolding judged
           bad_right h a =
               owed (bad (refusal Fault.Field 1)) (rw (eq-eqb (length left) 1024 whole_left, eq-eqb (length right) 1024 whole_right, room, read_left, h)) a refl
 
-          module _ (y : Summary) (read_right : summary_of right ≡ SummaryRead.Valid y) where
+          module _ (y : Summary) (read_right : summary_of right ≡ Some y) where
             pub other_settings :
-                {answer : Joined} → same_label x.label y.label ≡ false → answer ≡ Joined.Refused (refusal Fault.Mismatch 1) → Outcome left right out at answer out
+                {answer : (Result (Unit {0}) Refusal)} → same_label x.label y.label ≡ false → answer ≡ Err (refusal Fault.Mismatch 1) → Outcome left right out at answer out
             unfolding judged
             other_settings h a =
                 owed (bad (refusal Fault.Mismatch 1))
@@ -100,14 +100,14 @@ module _ (left right out : List ℕ) (at : ℕ) where
 
             module _ (same : same_label x.label y.label ≡ true) where
               pub apart :
-                  {answer : Joined} → (x.after ≡ y.first → ⊥) → answer ≡ Joined.Refused (refusal Fault.Order 1) → Outcome left right out at answer out
+                  {answer : (Result (Unit {0}) Refusal)} → (x.after ≡ y.first → ⊥) → answer ≡ Err (refusal Fault.Order 1) → Outcome left right out at answer out
               unfolding judged
               apart h a =
                   owed (bad (refusal Fault.Order 1))
                   (rw (eq-eqb (length left) 1024 whole_left, eq-eqb (length right) 1024 whole_right, room, read_left, read_right, same, ne_eqb x.after y.first h)) a refl
 
               pub made :
-                  {after : List ℕ} → x.after ≡ y.first → after ≡ placed out at (summary_bytes (joined_of x y)) → Outcome left right out at Joined.Written after
+                  {after : List ℕ} → x.after ≡ y.first → after ≡ placed out at (summary_bytes (joined_of x y)) → Outcome left right out at (Ok tt) after
               unfolding judged
               made h b =
                   owed (good (joined_of x y))
@@ -115,5 +115,5 @@ module _ (left right out : List ℕ) (at : ℕ) where
 
 -- two results that the contract allows are one
 pub outcomes_coincide :
-    {left right out : List ℕ} {at : ℕ} {a b : Joined} {x y : List ℕ} → Outcome left right out at a x → Outcome left right out at b y → (a ≡ b) × (x ≡ y)
+    {left right out : List ℕ} {at : ℕ} {a b : (Result (Unit {0}) Refusal)} {x y : List ℕ} → Outcome left right out at a x → Outcome left right out at b y → (a ≡ b) × (x ≡ y)
 outcomes_coincide p q = (p.answered ∙ sym q.answered, p.left_in ∙ sym q.left_in)

@@ -9,6 +9,7 @@ use native.Mathlib.Omega.{arith}
 use lib.Dec.{eqb}
 use lib.ListN.{length, get_or, length-map}
 use borrow.Author.Tests.{eqb-true}
+use Rattle.std.specs.Prelude.{Option, Some, None, Result, Ok, Err}
 use Rattle.numbers.specs.Bytes.{placed}
 use Rattle.numbers.specs.Many.{count_of, whole_if}
 use Rattle.numbers.specs.Room.{has_room}
@@ -17,18 +18,14 @@ use Rattle.numbers.specs.declared.refusal.Refusal.{Refusal}
 use Rattle.settings.specs.Settings.{label_meets, settings_of}
 use Rattle.settings.specs.declared.LabelSettings.{LabelSettings}
 use Rattle.settings.specs.declared.Settings.{Settings}
-use Rattle.settings.specs.declared.SettingsRead.{SettingsRead}
 use Rattle.settings.proofs.SettingsRecord.{label_valid}
 use Rattle.intervals.specs.Sequence.{intervals_in, checked, ordered_if}
 use Rattle.intervals.specs.declared.Interval.{Interval}
-use Rattle.intervals.specs.declared.IntervalRead.{IntervalRead}
-use Rattle.intervals.specs.declared.Sequence.{Sequence}
 use Rattle.rule.specs.Evaluator.{labelling}
 use Rattle.rule.specs.Labels.{Label, undecided, Meaning}
 use Rattle.rule.proofs.Labelling.{labels_settle, labels_length, meaning_one}
 use Rattle.labels.specs.Marked.{loss_mark, composite_mark}
 use Rattle.labels.specs.Stretch.{label_byte, side_by_side, label_bytes, intervals_of, Outcome, outcome, refuse, when_checked, when_counted, when_read, labels_of}
-use Rattle.labels.specs.declared.stretch.Labelled.{Labelled}
 use Rattle.labels.proofs.Placing.{label_bytes_length, read_label}
 use Rattle.labels.proofs.Soundness.{sound_rest, sound_all, sound_length}
 
@@ -86,10 +83,10 @@ meant_one n ms k a b p q = rw (p.byte_of, q.byte_of, meaning_one n ms k p.label 
 -- as it was but for two bytes for each interval from the offset on, and these are its labels by the marks of all the intervals.
 pub record Written (s r out : List ℕ) (at : ℕ) (after : List ℕ) : Type 0 where
   pub settings : Settings
-  pub settings_read : settings_of s ≡ SettingsRead.Valid settings
+  pub settings_read : settings_of s ≡ Some settings
   pub intervals : List Interval
   pub whole : length r ≡ length intervals * 48
-  pub each_read : intervals_in r ≡ map IntervalRead.Valid intervals
+  pub each_read : intervals_in r ≡ map Some intervals
   pub numbered : (k : ℕ) → k < length intervals → get_or (map (λ v. v.number) intervals) k 0 ≡ k
   pub bytes : List ℕ
   pub two_each : length bytes ≡ 2 * length intervals
@@ -97,35 +94,35 @@ pub record Written (s r out : List ℕ) (at : ℕ) (after : List ℕ) : Type 0 w
   pub loss_meant : (k : ℕ) → k < length intervals → Meant settings.label.n (map (loss_mark settings.label) intervals) k (get_or bytes (2 * k) 0)
   pub composite_meant : (k : ℕ) → k < length intervals → Meant settings.label.n (map (composite_mark settings.label) intervals) k (get_or bytes (2 * k + 1) 0)
 
-ordered_true : (b : Bool) (place : ℕ) (rest : Sequence) → ordered_if b place rest ≡ Sequence.Sound → b ≡ true
+ordered_true : (b : Bool) (place : ℕ) (rest : Result (Unit {0}) Refusal) → ordered_if b place rest ≡ Ok tt → b ≡ true
 ordered_true true place rest e = refl
 ordered_true false place rest e = cc
 
 -- sound records are numbered one after the other
 sound_numbers :
-    (next place : ℕ) (xs : List IntervalRead) → checked next place xs ≡ Sequence.Sound → (k : ℕ) → k < length (intervals_of xs) → get_or (map (λ v. v.number) (intervals_of xs)) k 0 ≡ next + k
+    (next place : ℕ) (xs : List (Option Interval)) → checked next place xs ≡ Ok tt → (k : ℕ) → k < length (intervals_of xs) → get_or (map (λ v. v.number) (intervals_of xs)) k 0 ≡ next + k
 unfolding checked intervals_of
 sound_numbers next place [] e k h = absurd (omega arith)
-sound_numbers next place (IntervalRead.Invalid ∷ xs) e k h = cc
-sound_numbers next place (IntervalRead.Valid v ∷ xs) e zero h =
+sound_numbers next place (None ∷ xs) e k h = cc
+sound_numbers next place (Some v ∷ xs) e zero h =
     omega (arith, eqb-true v.number next (ordered_true (eqb v.number next) place (checked (suc next) (suc place) xs) e))
-sound_numbers next place (IntervalRead.Valid v ∷ xs) e (suc k) h =
+sound_numbers next place (Some v ∷ xs) e (suc k) h =
     omega (arith, sound_numbers (suc next) (suc place) xs (sound_rest (eqb v.number next) place (checked (suc next) (suc place) xs) e) k (omega arith))
 
 -- what is refused is not written
-not_refused : {P : Type 0} {after out : List ℕ} {x : Refusal} → outcome Labelled.Written after ≡ outcome (Labelled.Refused x) out → P
+not_refused : {P : Type 0} {after out : List ℕ} {x : Refusal} → outcome (Ok tt) after ≡ outcome (Err x) out → P
 not_refused e = let told = ap (λ (o : Outcome). o.answer) e in let z : ◌≡◌ {A = ℕ} 0 1 = cc told in absurd (omega arith)
 
 -- each test of the operation was passed, from the last one to the first
 module _ (s r out : List ℕ) (at : ℕ) (after : List ℕ) where
-  module _ (v : Settings) (read : settings_of s ≡ SettingsRead.Valid v) where
+  module _ (v : Settings) (read : settings_of s ≡ Some v) where
     vs : List Interval
     vs = intervals_of (intervals_in r)
 
-    by_records : length r % 48 ≡ 0 → (c : Sequence) → checked 0 0 (intervals_in r) ≡ c → outcome Labelled.Written after ≡ when_checked v.label r out at c → Written s r out at after
+    by_records : length r % 48 ≡ 0 → (c : Result (Unit {0}) Refusal) → checked 0 0 (intervals_in r) ≡ c → outcome (Ok tt) after ≡ when_checked v.label r out at c → Written s r out at after
     unfolding vs
-    by_records whole (Sequence.Refused x) sound e = not_refused e
-    by_records whole Sequence.Sound sound e =
+    by_records whole (Err x) sound e = not_refused e
+    by_records whole (Ok tt) sound e =
         let settle = label_bytes_settle v.label vs (read_label s v read) in
         record {
           settings = v;
@@ -143,20 +140,20 @@ module _ (s r out : List ℕ) (at : ℕ) (after : List ℕ) where
 
     by_room :
         length r % 48 ≡ 0 → (room : Bool) →
-        outcome Labelled.Written after ≡ cond room (when_checked v.label r out at (checked 0 0 (intervals_in r))) (refuse Fault.Room out) → Written s r out at after
+        outcome (Ok tt) after ≡ cond room (when_checked v.label r out at (checked 0 0 (intervals_in r))) (refuse Fault.Room out) → Written s r out at after
     by_room whole false e = not_refused e
     by_room whole true e = by_records whole (checked 0 0 (intervals_in r)) refl e
 
-    by_count : (z : Bool) → eqb (length r % 48) 0 ≡ z → outcome Labelled.Written after ≡ when_counted v.label r out at (whole_if z (length r / 48)) → Written s r out at after
+    by_count : (z : Bool) → eqb (length r % 48) 0 ≡ z → outcome (Ok tt) after ≡ when_counted v.label r out at (whole_if z (length r / 48)) → Written s r out at after
     by_count false h e = not_refused e
     by_count true h e = by_room (eqb-true (length r % 48) 0 h) (has_room (length out) at (2 * (length r / 48))) e
 
-  by_settings : (x : SettingsRead) → settings_of s ≡ x → outcome Labelled.Written after ≡ when_read r out at x → Written s r out at after
+  by_settings : (x : Option Settings) → settings_of s ≡ x → outcome (Ok tt) after ≡ when_read r out at x → Written s r out at after
   unfolding count_of
-  by_settings SettingsRead.Invalid h e = not_refused e
-  by_settings (SettingsRead.Valid v) h e = by_count v h (eqb (length r % 48) 0) refl e
+  by_settings None h e = not_refused e
+  by_settings (Some v) h e = by_count v h (eqb (length r % 48) 0) refl e
 
   -- the contract of `labels`, where it answers that it wrote
-  pub labels_written : outcome Labelled.Written after ≡ labels_of s r out at → Written s r out at after
+  pub labels_written : outcome (Ok tt) after ≡ labels_of s r out at → Written s r out at after
   unfolding labels_of
   labels_written e = by_settings (settings_of s) refl e

@@ -8,18 +8,16 @@ use borrow.Rule.Slice.PartMut.{put_mid}
 use lib.Dec.{ltb, eqb}
 use lib.ListN.{length, length-map}
 use lib.Seq.{drop-drop}
+use Rattle.std.specs.Prelude.{Some, Ok}
 use Rattle.numbers.specs.Bytes.{placed}
 use Rattle.numbers.specs.Many.{count_of, whole_if}
-use Rattle.numbers.specs.declared.many.Counted.{Counted}
 use Rattle.numbers.proofs.Rules.{rule_met}
 use Rattle.settings.specs.Settings.{label_meets, settings_rules, objectives_in, settings_of}
 use Rattle.settings.specs.declared.LabelSettings.{LabelSettings}
 use Rattle.settings.specs.declared.Settings.{Settings}
-use Rattle.settings.specs.declared.SettingsRead.{SettingsRead}
 use Rattle.settings.proofs.SettingsRecord.{settings_read}
 use Rattle.intervals.specs.Sequence.{intervals_in, checked}
 use Rattle.intervals.specs.declared.Interval.{Interval}
-use Rattle.intervals.specs.declared.Sequence.{Sequence}
 use Rattle.rule.specs.Labels.{Label}
 use Rattle.rule.proofs.Labelling.{labels_length}
 use Rattle.labels.specs.Marked.{loss_mark, composite_mark}
@@ -47,21 +45,21 @@ window_placed out bs at n e h =
     rw (k, drop-drop)
 
 pub labels_placed :
-    (l : LabelSettings) (r out : List ℕ) (at n : ℕ) → checked 0 0 (intervals_in r) ≡ Sequence.Sound → n ≡ length r / 48 → at + 2 * n ≤ length out →
+    (l : LabelSettings) (r out : List ℕ) (at n : ℕ) → checked 0 0 (intervals_in r) ≡ Ok tt → n ≡ length r / 48 → at + 2 * n ≤ length out →
     put_mid at (at + 2 * n - at) out (label_bytes l (intervals_of (intervals_in r))) ≡ placed out at (label_bytes l (intervals_of (intervals_in r)))
 labels_placed l r out at n sound e h =
     window_placed out (label_bytes l (intervals_of (intervals_in r))) at (2 * n)
     (label_bytes_length l (intervals_of (intervals_in r)) ∙ ap (λ (k : ℕ). 2 * k) (sound_length r sound ∙ sym e)) h
 
 -- what is known of settings that were read, and of a number of records
-pub read_label : (s : List ℕ) (v : Settings) → settings_of s ≡ SettingsRead.Valid v → label_meets v.label ≡ true
+pub read_label : (s : List ℕ) (v : Settings) → settings_of s ≡ Some v → label_meets v.label ≡ true
 unfolding settings_rules objectives_in
 read_label s v e = let k = settings_read s v e in rw (← k.1) (rule_met (settings_rules s) 1 k.0)
 
-pub counted : (len size n : ℕ) → count_of len size ≡ Counted.Whole n → n ≡ len / size
+pub counted : (len size n : ℕ) → count_of len size ≡ Some n → n ≡ len / size
 unfolding count_of
 counted len size n e = by (ltb 0 size && eqb (len % size) 0) e
   where
-    by : (z : Bool) → whole_if z (len / size) ≡ Counted.Whole n → n ≡ len / size
+    by : (z : Bool) → whole_if z (len / size) ≡ Some n → n ≡ len / size
     by true p = cc
     by false p = cc

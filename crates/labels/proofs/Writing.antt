@@ -7,13 +7,12 @@ use native.Mathlib.Omega.{arith}
 use native.Mathlib.Numerals.{add-one}
 use lib.ListN.{length, get_or, take, length-map, get_or-map}
 use lib.Seq.{take-suc, take_all, length-take-le}
+use Rattle.std.specs.Prelude.{Some, Ok}
 use Rattle.numbers.specs.Many.{record_at}
 use Rattle.settings.specs.declared.LabelSettings.{LabelSettings}
 use Rattle.intervals.specs.Interval.{interval_of, interval_in}
 use Rattle.intervals.specs.Sequence.{intervals_in, checked}
 use Rattle.intervals.specs.declared.Interval.{Interval}
-use Rattle.intervals.specs.declared.IntervalRead.{IntervalRead}
-use Rattle.intervals.specs.declared.Sequence.{Sequence}
 use Rattle.rule.specs.Evaluator.{fresh, gain}
 use Rattle.rule.specs.Labels.{settled}
 use Rattle.rule.specs.declared.Counts.{Counts}
@@ -23,22 +22,22 @@ use Rattle.intervals.proofs.IntervalRecord.{interval_read}
 use Rattle.rule.proofs.Labelling.{settled_and_pending, pending_short}
 use Rattle.labels.specs.Marked.{counts_of, counts_in, loss_mark, composite_mark}
 use Rattle.labels.specs.Stretch.{intervals_of, label_bytes, label_byte, settled_in, left_in, both_turned, both_settled, both_left, Settling, Leaving, Writing}
-use Rattle.labels.specs.declared.stretch.Tracks.{Tracks}
 use Rattle.labels.proofs.Lanes.{Lane, lane_start, lane_step, lane_other, lane_full, full_other, lanes_bytes}
 use Rattle.labels.proofs.Soundness.{sound_length, sound_at, sound_kth}
 use Rattle.labels.proofs.Strides.{length_strided}
+use Rattle.rule.specs.declared.Both.{Both}
 
 -- the marks of the records by one rule
 abbrev pub marks_in : (Interval → Bool) → List ℕ → List Bool
 marks_in mark r = map mark (intervals_of (intervals_in r))
 
 -- the counts of a valid record are those in its bytes
-counts_read : (s : List ℕ) (v : Interval) → interval_of s ≡ IntervalRead.Valid v → counts_in s ≡ counts_of v
+counts_read : (s : List ℕ) (v : Interval) → interval_of s ≡ Some v → counts_in s ≡ counts_of v
 unfolding counts_in interval_in
 counts_read s v e = ap counts_of (interval_read s v e).1
 
 -- before record k
-pub record Lanes (l : LabelSettings) (r : List ℕ) (k : ℕ) (t : Tracks) (part : List ℕ) : Type 0 where
+pub record Lanes (l : LabelSettings) (r : List ℕ) (k : ℕ) (t : Both Track) (part : List ℕ) : Type 0 where
   pub most : k ≤ length r / 48
   pub long : length part ≡ 2 * (length r / 48)
   pub on_loss : Lane l.n (take k (marks_in (loss_mark l) r)) 0 t.loss part
@@ -47,7 +46,7 @@ pub record Lanes (l : LabelSettings) (r : List ℕ) (k : ℕ) (t : Tracks) (part
 pub lanes_start : (l : LabelSettings) (r part : List ℕ) → length part ≡ 2 * (length r / 48) → Lanes l r 0 (record { loss = fresh; composite = fresh }) part
 lanes_start l r part e = record { most = omega arith; long = e; on_loss = lane_start l.n 0 part; on_composite = lane_start l.n 1 part }
 
-module _ (mark : Interval → Bool) (r : List ℕ) (sound : checked 0 0 (intervals_in r) ≡ Sequence.Sound) where
+module _ (mark : Interval → Bool) (r : List ℕ) (sound : checked 0 0 (intervals_in r) ≡ Ok tt) where
   marks_length : length (marks_in mark r) ≡ length r / 48
   marks_length = length-map (intervals_of (intervals_in r)) mark ∙ sound_length r sound
 
@@ -55,14 +54,14 @@ module _ (mark : Interval → Bool) (r : List ℕ) (sound : checked 0 0 (interva
   taken_length k h = length-take-le k (marks_in mark r) (rw marks_length h)
 
   -- one record more is one mark more
-  one_more : (k : ℕ) → k < length r / 48 → (v : Interval) → interval_of (record_at r 48 k) ≡ IntervalRead.Valid v → take (k + 1) (marks_in mark r) ≡ take k (marks_in mark r) ++ (mark v ∷ [])
+  one_more : (k : ℕ) → k < length r / 48 → (v : Interval) → interval_of (record_at r 48 k) ≡ Some v → take (k + 1) (marks_in mark r) ≡ take k (marks_in mark r) ++ (mark v ∷ [])
   one_more k h v e =
       let same : get_or (intervals_of (intervals_in r)) k v ≡ v = valid_same (sym (sound_at r sound k h v) ∙ e) in
       rw add-one
       (take-suc (marks_in mark r) k (mark v) (rw marks_length h)
       ∙ ap (λ (b : Bool). take k (marks_in mark r) ++ (b ∷ [])) (get_or-map mark (intervals_of (intervals_in r)) k v ∙ ap mark same))
     where
-      valid_same : {a b : Interval} → IntervalRead.Valid a ≡ IntervalRead.Valid b → a ≡ b
+      valid_same : {a b : Interval} → Some a ≡ Some b → a ≡ b
       valid_same e = cc
 
 -- the number pending is below n, and none is pending that is not known
@@ -70,7 +69,7 @@ lane_pending : (n : ℕ) (ms : List Bool) (lane : ℕ) (t : Track) (part : List 
 lane_pending n ms lane t part k p e h = rw h.stands (pending_short n ms p, omega (arith, settled_and_pending n ms))
 
 -- what a turn of the loop, and its end, ask for
-module _ (l : LabelSettings) (r : List ℕ) (k : ℕ) (t : Tracks) (p part : List ℕ) (w : Writing l r p) (s : Lanes l r k t part) where
+module _ (l : LabelSettings) (r : List ℕ) (k : ℕ) (t : Both Track) (p part : List ℕ) (w : Writing l r p) (s : Lanes l r k t part) where
   some : 1 ≤ l.n
   some = (label_valid l w.valid).n_facts.0
 
@@ -95,7 +94,7 @@ module _ (l : LabelSettings) (r : List ℕ) (k : ℕ) (t : Tracks) (p part : Lis
   lanes_leaving e = record { loss_known = loss_pending.1; composite_known = composite_pending.1; room = rw e s.long }
 
   -- one interval more
-  lanes_next : k < length r / 48 → (v : Interval) → interval_of (record_at r 48 k) ≡ IntervalRead.Valid v → Lanes l r (k + 1) (both_turned l t (counts_of v)) (both_settled part k l t (counts_of v))
+  lanes_next : k < length r / 48 → (v : Interval) → interval_of (record_at r 48 k) ≡ Some v → Lanes l r (k + 1) (both_turned l t (counts_of v)) (both_settled part k l t (counts_of v))
   lanes_next h v e =
       record {
         most = omega arith;

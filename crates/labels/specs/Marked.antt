@@ -6,7 +6,7 @@ use Rattle.settings.specs.declared.LabelSettings.{LabelSettings}
 use Rattle.intervals.specs.declared.Interval.{Interval}
 use Rattle.rule.specs.declared.Counts.{Counts}
 use Rattle.rule.specs.Marks.{high_loss, high_composite}
-use Rattle.labels.specs.declared.marks.Both.{Both}
+use Rattle.rule.specs.declared.Both.{Both}
 
 abbrev pub counts_of : Interval → Counts
 counts_of v = record { sent = v.sent; lost = v.lost; late = v.late; pairs = v.pairs; jumpy = v.jumpy }
@@ -23,7 +23,7 @@ loss_high l x = high_loss l.c million x
 abbrev pub composite_high : LabelSettings → Counts → Bool
 composite_high l x = high_composite l.weights l.u million x
 
-abbrev pub both_high : LabelSettings → Counts → Both
+abbrev pub both_high : LabelSettings → Counts → Both Bool
 both_high l x = record { loss = loss_high l x; composite = composite_high l x }
 
 -- the marks of an interval

@@ -6,14 +6,8 @@ ghost use Rattle.labels.specs.Marked.{counts_of, counts_in, both_high};
 
 use intervals::Interval;
 use numbers::{bytes, limits, many};
-use rule::Counts;
+use rule::{Both, Counts};
 use settings::LabelSettings;
-
-#[derive(Clone, Copy)]
-pub struct Both {
-    pub loss: bool,
-    pub composite: bool,
-}
 
 // What the marks are made of.
 fn counts_of(v: Interval) -> Counts
@@ -49,7 +43,7 @@ pub fn counts_at(s: &[u8], k: usize) -> Counts
 }
 
 // The marks of counts.
-pub fn high(l: LabelSettings, x: Counts) -> Both
+pub fn high(l: LabelSettings, x: Counts) -> Both<bool>
     requires { label_meets l ≡ true }
     ensures { result ≡ both_high l x }
 {
@@ -60,7 +54,7 @@ pub fn high(l: LabelSettings, x: Counts) -> Both
 }
 
 // The marks of an interval.
-pub fn marks(l: LabelSettings, v: Interval) -> Both
+pub fn marks(l: LabelSettings, v: Interval) -> Both<bool>
     requires { label_meets l ≡ true }
     ensures { result ≡ both_high l (counts_of v) }
 {

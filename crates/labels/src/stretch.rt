@@ -8,18 +8,10 @@ ghost use Rattle.rule.specs.Labels.{settled};
 ghost use Rattle.labels.specs.Stretch.{label_byte, label_bytes, intervals_of, strided, settled_in, both_turned, both_settled, both_left, Settling, Leaving, Writing, outcome, when_whole, labels_of};
 
 use crate::marks;
-use intervals::Sequence;
-use numbers::many::Counted;
 use numbers::refusal::{Fault, Refusal};
 use numbers::{many, room};
-use rule::{Counts, Track};
-use settings::{LabelSettings, SettingsRead};
-
-#[derive(Clone, Copy)]
-pub enum Labelled {
-    Written,
-    Refused(Refusal),
-}
+use rule::{Both, Counts, Track};
+use settings::LabelSettings;
 
 // A settled label as a byte.
 fn byte_of(label: bool) -> u8
@@ -33,11 +25,8 @@ fn fill(part: &mut [u8], from: usize, count: usize, x: u8)
     requires { from + 2 * count ≤ length part.old + 1 }
     ensures { part.new ≡ strided part.old from count x }
 {
-    let mut j: usize = 0;
-    while j < count {
-        let i = from + 2 * j;
-        part[i] = x;
-        j += 1;
+    for j in 0..count {
+        part[from + 2 * j] = x;
     }
 }
 
@@ -61,36 +50,25 @@ fn leave(part: &mut [u8], k: usize, lane: usize, t: Track)
     fill(part, 2 * (k - pending) + lane, pending, 2);
 }
 
-// Both tracks.
-#[derive(Clone, Copy)]
-pub struct Tracks {
-    pub loss: Track,
-    pub composite: Track,
-}
-
 // Interval `k` on both lanes.
-fn settle_both(part: &mut [u8], k: usize, l: LabelSettings, t: Tracks, x: Counts) -> Tracks
+fn settle_both(part: &mut [u8], k: usize, l: LabelSettings, t: Both<Track>, x: Counts) -> Both<Track>
     requires { Settling l k t part.old }
     ensures { (result ≡ both_turned l t x) × (part.new ≡ both_settled part.old k l t x) }
 {
     let n = l.n as u64;
     let m = marks::high(l, x);
-    let a = t.loss;
-    let b = t.composite;
-    let loss = settle(part, k, 0, n, a, m.loss);
-    let composite = settle(part, k, 1, n, b, m.composite);
-    Tracks { loss, composite }
+    let loss = settle(part, k, 0, n, t.loss, m.loss);
+    let composite = settle(part, k, 1, n, t.composite, m.composite);
+    Both { loss, composite }
 }
 
 // What is pending on both lanes after `k` intervals.
-fn leave_both(part: &mut [u8], k: usize, t: Tracks)
+fn leave_both(part: &mut [u8], k: usize, t: Both<Track>)
     requires { Leaving k t part.old }
     ensures { part.new ≡ both_left part.old k t }
 {
-    let a = t.loss;
-    let b = t.composite;
-    leave(part, k, 0, a);
-    leave(part, k, 1, b);
+    leave(part, k, 0, t.loss);
+    leave(part, k, 1, t.composite);
 }
 
 // The label bytes of the sound records of `r`, into a part that is just as long.
@@ -98,57 +76,45 @@ fn write_labels(l: LabelSettings, r: &[u8], part: &mut [u8])
     requires { Writing l r.now part.old }
     ensures { part.new ≡ label_bytes l (intervals_of (intervals_in r.now)) }
 {
-    let count = r.len() / 48;
     let nothing = Track {
         label: false,
         pending: 0,
     };
-    let mut t = Tracks {
+    let mut t = Both {
         loss: nothing,
         composite: nothing,
     };
-    let mut k: usize = 0;
-    while k < count {
+    let count = r.len() / 48;
+    for k in 0..count {
         t = settle_both(part, k, l, t, marks::counts_at(r, k));
-        k += 1;
     }
     leave_both(part, count, t);
 }
 
 // The label bytes of the `n` whole records of `r`, written at `at` of `out` if there is room and the records are sound.
-fn write_at(l: LabelSettings, r: &[u8], n: usize, out: &mut [u8], at: usize) -> Labelled
+fn write_at(
+    l: LabelSettings,
+    r: &[u8],
+    n: usize,
+    out: &mut [u8],
+    at: usize,
+) -> Result<(), Refusal>
     requires { (label_meets l ≡ true) × (n ≡ length r.now / 48) }
     ensures { outcome result out.new ≡ when_whole l r.now out.old at n }
 {
-    if room::has_room(out.len(), at, 2 * n) {
-        if let Sequence::Refused(x) = intervals::check(r, 0) {
-            return Labelled::Refused(x);
-        }
-        write_labels(l, r, &mut out[at..at + 2 * n]);
-        return Labelled::Written;
+    if !room::has_room(out.len(), at, 2 * n) {
+        return Err(Fault::Room.at(0));
     }
-    Labelled::Refused(Refusal {
-        fault: Fault::Room,
-        place: 0,
-    })
+    intervals::check(r, 0)?;
+    write_labels(l, r, &mut out[at..at + 2 * n]);
+    Ok(())
 }
 
 // The label bytes of the stretch `r` of interval records from 0, written at `at` of `out`.
-pub fn labels(s: &[u8], r: &[u8], out: &mut [u8], at: usize) -> Labelled
+pub fn labels(s: &[u8], r: &[u8], out: &mut [u8], at: usize) -> Result<(), Refusal>
     ensures { outcome result out.new ≡ labels_of s.now r.now out.old at }
 {
-    let SettingsRead::Valid(v) = settings::read(s) else {
-        return Labelled::Refused(Refusal {
-            fault: Fault::Settings,
-            place: 0,
-        });
-    };
-    let Counted::Whole(n) = many::count(r.len(), 48) else {
-        return Labelled::Refused(Refusal {
-            fault: Fault::Length,
-            place: 0,
-        });
-    };
-    let l = v.label;
-    write_at(l, r, n, out, at)
+    let v = settings::read(s).ok_or(Fault::Settings)?;
+    let n = many::count(r.len(), 48).ok_or(Fault::Length)?;
+    write_at(v.label, r, n, out, at)
 }

@@ -11,6 +11,7 @@ use runs::run::{Edges, Run};
 use tracks::Track;
 
 // The load from `at` on. The bytes hold the least delay.
+#[tactic(auto, unfolding(crate::specs::Reading::load_in))]
 fn load_in(s: &[u8], at: usize) -> Load
     requires { at + 36 ≤ length s.now }
     ensures { result ≡ load_in s.now at }
@@ -29,6 +30,7 @@ fn load_in(s: &[u8], at: usize) -> Load
 }
 
 // The figures from `at` on.
+#[tactic(auto, unfolding(crate::specs::Reading::figures_in))]
 fn figures_in(s: &[u8], at: usize) -> Figures
     requires { at + 44 ≤ length s.now }
     ensures { result ≡ figures_in s.now at }
@@ -47,11 +49,12 @@ fn edges_in(form: u32, pre: u32, inner: u32, post: u32) -> Edges
 {
     match form {
         2 => Edges::Solid(pre),
-        _ => Edges::Split(pre, inner, post),
+        _ => Edges::Split { pre, inner, post },
     }
 }
 
 // The run from `at` on.
+#[tactic(auto, unfolding(crate::specs::Reading::run_in))]
 fn run_in(s: &[u8], at: usize) -> Run
     requires { at + 56 ≤ length s.now }
     ensures { result ≡ run_in s.now at }
@@ -70,7 +73,7 @@ fn run_in(s: &[u8], at: usize) -> Run
     }
 }
 
-// A label of a word: 0 inherits, 1 available, else unavailable.
+// A label of a word: 0 inherits, 1 available, else unavailable. Not a `From`, as both types are other crates'.
 #[tactic(auto, unfolding(crate::specs::Reading::label_in))]
 fn label_in(word: u32) -> Label
     ensures { result ≡ label_in word }
@@ -83,6 +86,7 @@ fn label_in(word: u32) -> Label
 }
 
 // The middle from `at` on.
+#[tactic(auto, unfolding(crate::specs::Reading::middle_in))]
 fn middle_in(s: &[u8], at: usize) -> Middle
     requires { at + 96 ≤ length s.now }
     ensures { result ≡ middle_in s.now at }
@@ -101,8 +105,7 @@ pub fn track_in(s: &[u8], at: usize) -> Track
     requires { at + 216 ≤ length s.now }
     ensures { result ≡ track_in s.now at }
 {
-    let kind = known::get_u64(s, at);
-    match kind {
+    match known::get_u64(s, at) {
         0 => Track::Nothing,
         1 => Track::One(run_in(s, at + 8)),
         _ => Track::Many(
@@ -114,6 +117,7 @@ pub fn track_in(s: &[u8], at: usize) -> Track
 }
 
 // Whether the least delay of the load from `at` on is at most the largest delay.
+#[tactic(auto, unfolding(crate::specs::Reading::load_words, numbers::specs::Limits::largest_delay))]
 fn load_words(s: &[u8], at: usize) -> bool
     requires { at + 36 ≤ length s.now }
     ensures { result ≡ load_words s.now at }
@@ -122,6 +126,7 @@ fn load_words(s: &[u8], at: usize) -> bool
 }
 
 // Whether the words of the run from `at` on are ones that a writer makes.
+#[tactic(auto, unfolding(crate::specs::Reading::run_words))]
 fn run_words(s: &[u8], at: usize) -> bool
     requires { at + 56 ≤ length s.now }
     ensures { result ≡ run_words s.now at }
@@ -133,6 +138,7 @@ fn run_words(s: &[u8], at: usize) -> bool
 }
 
 // Whether the words of the middle from `at` on are ones that a writer makes.
+#[tactic(auto, unfolding(crate::specs::Reading::middle_words))]
 fn middle_words(s: &[u8], at: usize) -> bool
     requires { at + 96 ≤ length s.now }
     ensures { result ≡ middle_words s.now at }
@@ -146,8 +152,7 @@ pub fn words_meet(s: &[u8], at: usize) -> bool
     requires { at + 216 ≤ length s.now }
     ensures { result ≡ words_meet s.now at }
 {
-    let kind = known::get_u64(s, at);
-    match kind {
+    match known::get_u64(s, at) {
         0 => known::are_zero(s, at + 8, 208),
         1 => run_words(s, at + 8) & known::are_zero(s, at + 64, 152),
         2 => run_words(s, at + 8) & middle_words(s, at + 64) & run_words(s, at + 160),

@@ -11,127 +11,97 @@ use runs::{figures, middles};
 use tracks::Track;
 
 // A load put from `at` on: 36 bytes, with the least delay for the headroom.
+#[tactic(auto, using(crate::proofs::Laying::behind), unfolding(crate::specs::Bytes::load_bytes))]
 fn put_load(out: &mut [u8], at: usize, l: Load)
     requires { at + 36 ≤ length out.old }
     ensures { out.new ≡ sets out.old at (load_bytes l) }
 {
-    let b = at + 4;
-    let c = b + 4;
-    let d = c + 4;
-    let e = d + 8;
-    let f = e + 8;
     let least = figures::turned(l.sent, l.lost, l.headroom);
     known::put_u32(out, at, l.count);
-    known::put_u32(out, b, l.most);
-    known::put_u32(out, c, least);
-    known::put_u64(out, d, l.sent);
-    known::put_u64(out, e, l.lost);
-    known::put_u64(out, f, l.sum);
+    known::put_u32(out, at + 4, l.most);
+    known::put_u32(out, at + 8, least);
+    known::put_u64(out, at + 12, l.sent);
+    known::put_u64(out, at + 20, l.lost);
+    known::put_u64(out, at + 28, l.sum);
 }
 
 // Figures put from `at` on: 44 bytes.
+#[tactic(auto, using(crate::proofs::Laying::behind), unfolding(crate::specs::Bytes::figures_bytes))]
 fn put_figures(out: &mut [u8], at: usize, f: Figures)
     requires { at + 44 ≤ length out.old }
     ensures { out.new ≡ sets out.old at (figures_bytes f) }
 {
-    let b = at + 4;
-    let c = b + 4;
-    let l = f.load;
     known::put_u32(out, at, f.high);
-    known::put_u32(out, b, f.runs);
-    put_load(out, c, l);
+    known::put_u32(out, at + 4, f.runs);
+    put_load(out, at + 8, f.load);
 }
 
 // The form of a run: 0 low, 1 high and split, 2 high and solid.
 fn form_of(mark: bool, e: Edges) -> u32
     ensures { result ≡ form_of mark e }
 {
-    match e {
-        Edges::Solid(_) => if mark { 2 } else { 0 },
-        Edges::Split(_, _, _) => if mark { 1 } else { 0 },
+    match (mark, e) {
+        (false, _) => 0,
+        (true, Edges::Split { .. }) => 1,
+        (true, Edges::Solid(_)) => 2,
     }
 }
 
-fn pre_of(e: Edges) -> u32
-    ensures { result ≡ pre_of e }
+// What touches the left end, neither end, the right end.
+fn parts_of(e: Edges) -> (u32, u32, u32)
+    ensures { result ≡ (pre_of e, inner_of e, post_of e) }
 {
     match e {
-        Edges::Solid(k) => k,
-        Edges::Split(pre, _, _) => pre,
-    }
-}
-
-fn inner_of(e: Edges) -> u32
-    ensures { result ≡ inner_of e }
-{
-    match e {
-        Edges::Solid(_) => 0,
-        Edges::Split(_, inner, _) => inner,
-    }
-}
-
-fn post_of(e: Edges) -> u32
-    ensures { result ≡ post_of e }
-{
-    match e {
-        Edges::Solid(_) => 0,
-        Edges::Split(_, _, post) => post,
+        Edges::Solid(k) => (k, 0, 0),
+        Edges::Split { pre, inner, post } => (pre, inner, post),
     }
 }
 
 // What a run has beside its load, put from `at` on: 20 bytes.
+#[tactic(auto, using(crate::proofs::Laying::behind), unfolding(crate::specs::Bytes::shape_bytes))]
 fn put_shape(out: &mut [u8], at: usize, r: Run)
     requires { at + 20 ≤ length out.old }
     ensures { out.new ≡ sets out.old at (shape_bytes r) }
 {
-    let b = at + 4;
-    let c = b + 4;
-    let d = c + 4;
-    let e = d + 4;
-    let edges = r.edges;
-    known::put_u32(out, at, form_of(r.mark, edges));
-    known::put_u32(out, b, r.len);
-    known::put_u32(out, c, pre_of(edges));
-    known::put_u32(out, d, inner_of(edges));
-    known::put_u32(out, e, post_of(edges));
+    let (pre, inner, post) = parts_of(r.edges);
+    known::put_u32(out, at, form_of(r.mark, r.edges));
+    known::put_u32(out, at + 4, r.len);
+    known::put_u32(out, at + 8, pre);
+    known::put_u32(out, at + 12, inner);
+    known::put_u32(out, at + 16, post);
 }
 
 // A run put from `at` on: 56 bytes.
+#[tactic(auto, using(crate::proofs::Laying::behind), unfolding(crate::specs::Bytes::run_bytes))]
 fn put_run(out: &mut [u8], at: usize, r: Run)
     requires { at + 56 ≤ length out.old }
     ensures { out.new ≡ sets out.old at (run_bytes r) }
 {
-    let b = at + 20;
-    let l = r.load;
     put_shape(out, at, r);
-    put_load(out, b, l);
+    put_load(out, at + 20, r.load);
 }
 
-// A label as a number: 0 inherits, 1 available, 2 unavailable.
+// A label as a number: 0 inherits, 1 available, 2 unavailable. Not a `From`, as both types are other crates'.
 fn label_word(l: Label) -> u32
     ensures { result ≡ label_word l }
 {
     match l {
         Label::Inherits => 0,
-        Label::Says(unavailable) => if unavailable { 2 } else { 1 },
+        Label::Says(false) => 1,
+        Label::Says(true) => 2,
     }
 }
 
 // A middle put from `at` on: 96 bytes.
+#[tactic(auto, using(crate::proofs::Laying::behind), unfolding(crate::specs::Bytes::middle_bytes))]
 fn put_middle(out: &mut [u8], at: usize, m: Middle)
     requires { at + 96 ≤ length out.old }
     ensures { out.new ≡ sets out.old at (middle_bytes m) }
 {
-    let b = at + 4;
-    let c = b + 4;
-    let d = c + 44;
-    let label = m.label;
-    let inherited = m.inherited;
-    let available = m.available;
-    known::put_u32(out, at, label_word(label));
-    known::put_u32(out, b, m.unavailable);
-    put_figures(out, c, inherited);
-    put_figures(out, d, available);
+    known::put_u32(out, at, label_word(m.label));
+    known::put_u32(out, at + 4, m.unavailable);
+    put_figures(out, at + 8, m.inherited);
+    put_figures(out, at + 52, m.available);
 }
 
 // A run that is not there.
@@ -142,25 +112,24 @@ fn blank_run() -> Run
         mark: false,
         len: 0,
         load: figures::idle(),
-        edges: Edges::Split(0, 0, 0),
+        edges: Edges::NONE,
     }
 }
 
 // The pieces of a track put from `at` on: 216 bytes.
+#[tactic(auto, using(crate::proofs::Laying::behind), unfolding(crate::specs::Bytes::piece_bytes))]
 fn put_pieces(out: &mut [u8], at: usize, kind: u64, first: Run, m: Middle, last: Run)
     requires { at + 216 ≤ length out.old }
     ensures { out.new ≡ sets out.old at (piece_bytes kind first m last) }
 {
-    let b = at + 8;
-    let c = b + 56;
-    let d = c + 96;
     known::put_u64(out, at, kind);
-    put_run(out, b, first);
-    put_middle(out, c, m);
-    put_run(out, d, last);
+    put_run(out, at + 8, first);
+    put_middle(out, at + 64, m);
+    put_run(out, at + 160, last);
 }
 
 // A track put from `at` on: 216 bytes. What it does not have leaves 0.
+#[tactic(auto, unfolding(crate::specs::Bytes::track_bytes))]
 pub fn put_track(out: &mut [u8], at: usize, t: Track)
     requires { at + 216 ≤ length out.old }
     ensures { out.new ≡ sets out.old at (track_bytes t) }

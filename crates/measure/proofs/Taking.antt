@@ -7,6 +7,7 @@ use Prim.Native.Nat.{ℕ, suc, ◌+◌, ◌-◌, ◌≤◌, ◌<◌}
 use native.Mathlib.Omega.{arith}
 use lib.Dec.{ltb}
 use borrow.Author.Tests.{lt-ltb, le-ltb, le-leb, lt-leb}
+use Rattle.std.specs.Prelude.{Some, None, Ok, Err}
 use Rattle.numbers.specs.Limits.{largest_delay}
 use Rattle.numbers.specs.Many.{record_at}
 use Rattle.numbers.specs.Refusals.{refusal}
@@ -14,11 +15,9 @@ use Rattle.numbers.specs.declared.refusal.Fault.{Fault}
 use Rattle.numbers.proofs.Parts.{each_next, each_done}
 use Rattle.frames.specs.Frame.{frame_of}
 use Rattle.frames.specs.declared.Frame.{Frame}
-use Rattle.frames.specs.declared.FrameRead.{FrameRead}
 use Rattle.measure.specs.Measured.{apart}
 use Rattle.measure.specs.Outcome.{Frames, sound, faulty, with, frames_in, reads_from}
 use Rattle.measure.specs.Running.{nothing, added, added_all, taken_of, Small}
-use Rattle.measure.specs.declared.Taken.{Taken}
 use Rattle.measure.specs.declared.Tally.{Tally}
 
 -- a small tally stays small
@@ -54,28 +53,28 @@ with_taken dl jt t f (sound fs) = refl
 with_taken dl jt t f (faulty r) = refl
 
 module _ (dl jt from to n k earliest : ℕ) (s : List ℕ) (t : Tally) where
-  pub take_done : n ≤ k → taken_of dl jt t (frames_in from to k earliest (reads_from (n - k) s k)) ≡ Taken.All t
+  pub take_done : n ≤ k → taken_of dl jt t (frames_in from to k earliest (reads_from (n - k) s k)) ≡ Ok t
   unfolding frames_in added_all
   take_done h = rw (each_done frame_of 16 s n k h)
 
   pub take_invalid :
-      k < n → frame_of (record_at s 16 k) ≡ FrameRead.Invalid →
-      taken_of dl jt t (frames_in from to k earliest (reads_from (n - k) s k)) ≡ Taken.Not (refusal Fault.Field k)
+      k < n → frame_of (record_at s 16 k) ≡ None →
+      taken_of dl jt t (frames_in from to k earliest (reads_from (n - k) s k)) ≡ Err (refusal Fault.Field k)
   unfolding frames_in
   take_invalid h e = rw (each_next frame_of 16 s n k h, e)
 
-  module _ (f : Frame) (h : k < n) (e : frame_of (record_at s 16 k) ≡ FrameRead.Valid f) where
-    pub take_early : f.time < from → taken_of dl jt t (frames_in from to k earliest (reads_from (n - k) s k)) ≡ Taken.Not (refusal Fault.Outside k)
+  module _ (f : Frame) (h : k < n) (e : frame_of (record_at s 16 k) ≡ Some f) where
+    pub take_early : f.time < from → taken_of dl jt t (frames_in from to k earliest (reads_from (n - k) s k)) ≡ Err (refusal Fault.Outside k)
     unfolding frames_in
     take_early early = rw (each_next frame_of 16 s n k h, e, lt-leb from f.time early)
 
     pub take_beyond :
-        from ≤ f.time → to ≤ f.time → taken_of dl jt t (frames_in from to k earliest (reads_from (n - k) s k)) ≡ Taken.Not (refusal Fault.Outside k)
+        from ≤ f.time → to ≤ f.time → taken_of dl jt t (frames_in from to k earliest (reads_from (n - k) s k)) ≡ Err (refusal Fault.Outside k)
     unfolding frames_in
     take_beyond low beyond = rw (each_next frame_of 16 s n k h, e, le-leb from f.time low, le-ltb f.time to beyond)
 
     pub take_disordered :
-        from ≤ f.time → f.time < to → f.time < earliest → taken_of dl jt t (frames_in from to k earliest (reads_from (n - k) s k)) ≡ Taken.Not (refusal Fault.Order k)
+        from ≤ f.time → f.time < to → f.time < earliest → taken_of dl jt t (frames_in from to k earliest (reads_from (n - k) s k)) ≡ Err (refusal Fault.Order k)
     unfolding frames_in
     take_disordered low high late =
         rw (each_next frame_of 16 s n k h, e, le-leb from f.time low, lt-ltb f.time to high, lt-leb earliest f.time late)

@@ -11,23 +11,19 @@ use native.Mathlib.Omega.{arith}
 use lib.ListN.{length}
 use lib.Dec.{leb, ltb, eqb}
 use borrow.Author.Tests.{lt-ltb, le-ltb, le-leb, leb-false, ltb-false, eq-eqb, ne_eqb}
+use Rattle.std.specs.Prelude.{Option, Some, None, Result, Ok}
 use Rattle.numbers.specs.Limits.{intervals, frames, largest_delay}
 use Rattle.numbers.specs.Many.{count_of, record_at, read_each}
 use Rattle.numbers.specs.Room.{has_room}
-use Rattle.numbers.specs.declared.many.Counted.{Counted}
 use Rattle.numbers.specs.declared.refusal.Fault.{Fault}
 use Rattle.numbers.specs.declared.refusal.Refusal.{Refusal}
 use Rattle.settings.specs.Settings.{settings_of}
 use Rattle.settings.specs.declared.Settings.{Settings}
-use Rattle.settings.specs.declared.SettingsRead.{SettingsRead}
 use Rattle.frames.specs.Frame.{frame_of}
 use Rattle.frames.specs.declared.Frame.{Frame}
-use Rattle.frames.specs.declared.FrameRead.{FrameRead}
 use Rattle.intervals.specs.Interval.{interval_of, interval_bytes, count_rules, counts_meet, no_delay_rules, delay_rules, delays_meet}
 use Rattle.intervals.specs.declared.Interval.{Interval}
-use Rattle.measure.specs.declared.Judged.{Judged}
 use Rattle.settings.specs.declared.LabelSettings.{LabelSettings}
-use Rattle.intervals.specs.declared.IntervalRead.{IntervalRead}
 use Rattle.intervals.proofs.RoundTrip.{read_write}
 use Rattle.measure.specs.Measured.{count_if, pairs_if, is_lost, is_late, is_pair, is_jumpy, apart, delays_of, sum_of, least_of, most_of, measured}
 use Rattle.measure.specs.Outcome.{Frames, sound, faulty, with, unless, frames_in, reads_from, length_of, judged_of, refuse_if, judged_frames, judged_count, judged_settings, judged}
@@ -169,7 +165,7 @@ module _ (l : LabelSettings) (number : ℕ) (maintenance : Bool) (fs : List Fram
   unfolding delays_meet no_delay_rules delay_rules measured
   measured_delays = rw delivered_is (delays_meet_lem (delays_of fs) (most_small largest_delay fs small))
 
-  pub measured_reads_back : interval_of (interval_bytes (measured l number maintenance fs)) ≡ IntervalRead.Valid (measured l number maintenance fs)
+  pub measured_reads_back : interval_of (interval_bytes (measured l number maintenance fs)) ≡ Some (measured l number maintenance fs)
   measured_reads_back = read_write (measured l number maintenance fs) measured_counts measured_delays
 
 -- frames that are sound are as many as were read, and no delay of theirs is too large
@@ -198,28 +194,28 @@ sound_frames from to (suc n) place earliest k s fs e =
     by (frame_of (record_at s 16 k)) refl e (λ time gs. sound_frames from to n (suc place) time (suc k) s gs)
   where
     by :
-        (r : FrameRead) →
+        (r : Option Frame) →
         frame_of (record_at s 16 k) ≡ r →
         frames_in from to place earliest (r ∷ reads_from n s (suc k)) ≡ sound fs →
         ((time : ℕ) (gs : List Frame) → frames_in from to (suc place) time (reads_from n s (suc k)) ≡ sound gs → Sound n gs) →
         Sound (suc n) fs
-    by FrameRead.Invalid read h more = let z : ◌≡◌ {A = ℕ} 0 1 = cc in absurd (omega arith)
-    by (FrameRead.Valid f) read h more =
+    by None read h more = let z : ◌≡◌ {A = ℕ} 0 1 = cc in absurd (omega arith)
+    by (Some f) read h more =
         one_more f n (frames_in from to (suc place) (f.time + 1) (reads_from n s (suc k))) fs (frame_valid (record_at s 16 k) f read).delay_fact (more (f.time + 1))
         (guarded (leb earliest f.time) _ _ fs (guarded (leb from f.time && ltb f.time to) _ _ fs h))
 
 -- so what the operation writes is read back as the interval that it writes
 
 ReadsBack : Interval → Type 0
-ReadsBack i = interval_of (interval_bytes i) ≡ IntervalRead.Valid i
+ReadsBack i = interval_of (interval_bytes i) ≡ Some i
 
-passed : (b : Bool) (f : Fault) (j : Judged) (i : Interval) → refuse_if b f j ≡ Judged.Good i → (b ≡ false) × (j ≡ Judged.Good i)
+passed : (b : Bool) (f : Fault) (j : Result Interval Refusal) (i : Interval) → refuse_if b f j ≡ Ok i → (b ≡ false) × (j ≡ Ok i)
 passed true f j i e = let z : ◌≡◌ {A = ℕ} 0 1 = cc in absurd (omega arith)
 passed false f j i e = (refl, e)
 
 frames_read_back :
     (l : LabelSettings) (number : ℕ) (flag : Bool) (n : ℕ) (s : List ℕ) (i : Interval) (fs : Frames) (from to : ℕ) →
-    number < intervals → n ≤ frames → frames_in from to 0 0 (reads_from n s 0) ≡ fs → judged_of l number flag fs ≡ Judged.Good i → ReadsBack i
+    number < intervals → n ≤ frames → frames_in from to 0 0 (reads_from n s 0) ≡ fs → judged_of l number flag fs ≡ Ok i → ReadsBack i
 unfolding ReadsBack Sound
 frames_read_back l number flag n s i (sound fs) from to known few read e =
     let q : measured l number flag fs ≡ i = cc in
@@ -227,7 +223,7 @@ frames_read_back l number flag n s i (sound fs) from to known few read e =
     subst (λ v. ReadsBack v) q (measured_reads_back l number flag fs known (omega (arith, f.0)) f.1)
 frames_read_back l number flag n s i (faulty r) from to known few read e = let z : ◌≡◌ {A = ℕ} 0 1 = cc in absurd (omega arith)
 
-judged_frames_read_back : (l : LabelSettings) (n number maintenance : ℕ) (s : List ℕ) (i : Interval) → judged_frames l n number maintenance s ≡ Judged.Good i → ReadsBack i
+judged_frames_read_back : (l : LabelSettings) (n number maintenance : ℕ) (s : List ℕ) (i : Interval) → judged_frames l n number maintenance s ≡ Ok i → ReadsBack i
 unfolding judged_frames
 judged_frames_read_back l n number maintenance s i e =
     let a = passed (ltb frames n) Fault.Full _ i e in
@@ -237,15 +233,15 @@ judged_frames_read_back l n number maintenance s i e =
 
 pub interval_reads_back :
     (settings s : List ℕ) (number maintenance len at : ℕ) (i : Interval) →
-    judged settings s number maintenance len at ≡ Judged.Good i → interval_of (interval_bytes i) ≡ IntervalRead.Valid i
+    judged settings s number maintenance len at ≡ Ok i → interval_of (interval_bytes i) ≡ Some i
 unfolding judged ReadsBack
 interval_reads_back settings s number maintenance len at i e = by_settings (settings_of settings) e
   where
-    by_count : (v : Settings) (n : Counted) (room : Bool) → judged_count v.label n room number maintenance s ≡ Judged.Good i → ReadsBack i
-    by_count v Counted.Ragged room h = let z : ◌≡◌ {A = ℕ} 0 1 = cc in absurd (omega arith)
-    by_count v (Counted.Whole n) false h = let z : ◌≡◌ {A = ℕ} 0 1 = cc in absurd (omega arith)
-    by_count v (Counted.Whole n) true h = judged_frames_read_back v.label n number maintenance s i h
+    by_count : (v : Settings) (n : Option ℕ) (room : Bool) → judged_count v.label n room number maintenance s ≡ Ok i → ReadsBack i
+    by_count v None room h = let z : ◌≡◌ {A = ℕ} 0 1 = cc in absurd (omega arith)
+    by_count v (Some n) false h = let z : ◌≡◌ {A = ℕ} 0 1 = cc in absurd (omega arith)
+    by_count v (Some n) true h = judged_frames_read_back v.label n number maintenance s i h
 
-    by_settings : (r : SettingsRead) → judged_settings r (has_room len at 48) number maintenance s ≡ Judged.Good i → ReadsBack i
-    by_settings SettingsRead.Invalid h = let z : ◌≡◌ {A = ℕ} 0 1 = cc in absurd (omega arith)
-    by_settings (SettingsRead.Valid v) h = by_count v (count_of (length s) 16) (has_room len at 48) h
+    by_settings : (r : Option Settings) → judged_settings r (has_room len at 48) number maintenance s ≡ Ok i → ReadsBack i
+    by_settings None h = let z : ◌≡◌ {A = ℕ} 0 1 = cc in absurd (omega arith)
+    by_settings (Some v) h = by_count v (count_of (length s) 16) (has_room len at 48) h

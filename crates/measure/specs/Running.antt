@@ -1,12 +1,12 @@
 -- A tally that takes one frame after the other. Its law (proofs/Tallies.antt): after frames fs it holds what `measured` says of fs.
-use Rattle.std.specs.Prelude.{ℕ, ◌+◌, ◌*◌, ◌≤◌, min, max, Bool, false, ◌&&◌, not, cond, List, [], ◌∷◌, eqb, ltb}
+use Rattle.std.specs.Prelude.{ℕ, ◌+◌, ◌*◌, ◌≤◌, min, max, Bool, false, ◌&&◌, not, cond, List, [], ◌∷◌, eqb, ltb, Result, Ok, Err}
 use Rattle.numbers.specs.Limits.{largest_delay}
 use Rattle.frames.specs.declared.Frame.{Frame}
 use Rattle.intervals.specs.declared.Interval.{Interval}
 use Rattle.measure.specs.Measured.{apart}
 use Rattle.measure.specs.Outcome.{Frames, sound, faulty}
-use Rattle.measure.specs.declared.Taken.{Taken}
 use Rattle.measure.specs.declared.Tally.{Tally}
+use Rattle.numbers.specs.declared.refusal.Refusal.{Refusal}
 
 -- nothing taken yet
 abbrev pub nothing : Tally
@@ -53,9 +53,9 @@ added_all dl jt t [] = t
 added_all dl jt t (f ∷ fs) = added_all dl jt (added dl jt t f) fs
 
 -- the tally that goes on from t
-abbrev pub taken_of : ℕ → ℕ → Tally → Frames → Taken
-taken_of dl jt t (sound fs) = Taken.All (added_all dl jt t fs)
-taken_of dl jt t (faulty r) = Taken.Not r
+abbrev pub taken_of : ℕ → ℕ → Tally → Frames → Result Tally Refusal
+taken_of dl jt t (sound fs) = Ok (added_all dl jt t fs)
+taken_of dl jt t (faulty r) = Err r
 
 -- what a tally of frames within the limits can hold: no sum outgrows its field
 pub record Small (t : Tally) : Type 0 where

@@ -1,19 +1,16 @@
 // From frames to one interval.
 #![tactic(auto)]
 
-ghost use Rattle.std.specs.Prelude.{◌≡◌, ◌^◌, ◌≤◌, ◌<◌, min, max, cond};
-ghost use Rattle.measure.specs.Measured.{apart};
+ghost use Rattle.std.specs.Prelude.{◌≡◌, ◌^◌, ◌≤◌, ◌<◌, cond};
 ghost use Rattle.measure.specs.Running.{added, finished, nothing, taken_of, Small};
 ghost use Rattle.measure.specs.Outcome.{frames_in, reads_from, judged_frames, Outcome};
 ghost use Rattle.numbers.specs.Limits.{frames};
-ghost use Rattle.numbers.specs.Refusals.{refusal};
 
-use frames::{Frame, FrameRead};
+use frames::Frame;
 use intervals::Interval;
-use numbers::many::Counted;
 use numbers::refusal::{Fault, Refusal};
 use numbers::{limits, many, room};
-use settings::{LabelSettings, SettingsRead};
+use settings::LabelSettings;
 
 // What the frames taken so far give, and what the next one needs of the last.
 #[derive(Clone, Copy)]
@@ -31,56 +28,11 @@ pub struct Tally {
     pub delay: u32,
 }
 
-// The tally of frames, or the first fault among them.
-#[derive(Clone, Copy)]
-pub enum Taken {
-    All(Tally),
-    Not(Refusal),
-}
-
-// An interval, or why there is none.
-#[derive(Clone, Copy)]
-pub enum Judged {
-    Good(Interval),
-    Bad(Refusal),
-}
-
-#[derive(Clone, Copy)]
-pub enum Answer {
-    Written,
-    Refused(Refusal),
-}
-
-// 1 where `b` holds.
-fn one_if(b: bool) -> u32
-    ensures { (result ≡ cond b 1 0) × (result ≤ 1) }
-{
-    if b { 1 } else { 0 }
-}
-
+// The one of two that `b` says.
 fn pick(b: bool, x: u32, y: u32) -> u32
     ensures { result ≡ cond b x y }
 {
     if b { x } else { y }
-}
-
-fn lesser(x: u32, y: u32) -> u32
-    ensures { result ≡ min x y }
-{
-    if x <= y { x } else { y }
-}
-
-fn greater(x: u32, y: u32) -> u32
-    ensures { result ≡ max x y }
-{
-    if x <= y { y } else { x }
-}
-
-// How far two delays are apart.
-fn distance(x: u32, y: u32) -> u32
-    ensures { result ≡ apart x y }
-{
-    if x <= y { y - x } else { x - y }
 }
 
 // Nothing taken yet.
@@ -108,18 +60,18 @@ fn add(t: Tally, f: Frame, dl: u32, jt: u32) -> Tally
 {
     let got = !f.lost;
     let pair = t.delivered & got;
-    let jump = pair & (jt < distance(t.delay, f.delay));
-    let least = pick(t.sent == t.lost, f.delay, lesser(t.least, f.delay));
+    let jump = pair & (jt < t.delay.abs_diff(f.delay));
+    let least = pick(t.sent == t.lost, f.delay, t.least.min(f.delay));
     let more = pick(got, f.delay, 0);
     Tally {
         sent: t.sent + 1,
-        lost: t.lost + one_if(f.lost),
-        late: t.late + one_if(got & (dl < f.delay)),
-        pairs: t.pairs + one_if(pair),
-        jumpy: t.jumpy + one_if(jump),
+        lost: t.lost + f.lost as u32,
+        late: t.late + (got & (dl < f.delay)) as u32,
+        pairs: t.pairs + pair as u32,
+        jumpy: t.jumpy + jump as u32,
         sum: t.sum + more as u64,
         least: pick(got, least, t.least),
-        most: pick(got, greater(t.most, f.delay), t.most),
+        most: pick(got, t.most.max(f.delay), t.most),
         delivered: got,
         delay: f.delay,
     }
@@ -144,73 +96,55 @@ fn finish(t: Tally, number: u32, maintenance: bool) -> Interval
 }
 
 // The tally of the `n` frames in `s`, with times from `from` to before `to`, or the first fault among them.
-fn take_frames(s: &[u8], n: usize, from: u64, to: u64, dl: u32, jt: u32) -> Taken
+fn take_frames(s: &[u8], n: usize, from: u64, to: u64, dl: u32, jt: u32) -> Result<Tally, Refusal>
     requires { (n ≤ frames) × (to < 2 ^ 63) }
     ensures { result ≡ taken_of dl jt nothing (frames_in from to 0 0 (reads_from n s.now 0)) }
 {
     let mut t = start();
     let mut earliest: u64 = 0;
-    let mut k: usize = 0;
-    while k < n {
-        let FrameRead::Valid(f) = frames::read(many::part(s, 16, k)) else {
-            return refuse(Fault::Field, k as u64);
-        };
+    for k in 0..n {
+        let place = k as u64;
+        let f = frames::read(many::part(s, 16, k)).ok_or(Fault::Field.at(place))?;
         let time = f.time;
         if time < from {
-            return refuse(Fault::Outside, k as u64);
+            return Err(Fault::Outside.at(place));
         }
         if to <= time {
-            return refuse(Fault::Outside, k as u64);
+            return Err(Fault::Outside.at(place));
         }
         if time < earliest {
-            return refuse(Fault::Order, k as u64);
+            return Err(Fault::Order.at(place));
         }
         t = add(t, f, dl, jt);
         earliest = time + 1;
-        k += 1;
     }
-    Taken::All(t)
-}
-
-fn refuse(fault: Fault, place: u64) -> Taken
-    ensures { result ≡ Taken.Not (refusal fault place) }
-{
-    Taken::Not(Refusal { fault, place })
+    Ok(t)
 }
 
 // The interval of the `n` frames in `s`, or the first refusal that is left where there is room.
-fn judge(l: LabelSettings, s: &[u8], n: usize, number: u64, maintenance: u64) -> Judged
+fn judge(
+    l: LabelSettings,
+    s: &[u8],
+    n: usize,
+    number: u64,
+    maintenance: u64,
+) -> Result<Interval, Refusal>
     requires { l.length ≤ 60000 }
     ensures { result ≡ judged_frames l n number maintenance s.now }
 {
     if (limits::FRAMES as usize) < n {
-        return bad(Fault::Full);
+        return Err(Fault::Full.at(0));
     }
     if (limits::INTERVALS as u64) <= number {
-        return bad(Fault::Field);
+        return Err(Fault::Field.at(0));
     }
     if 1 < maintenance {
-        return bad(Fault::Field);
+        return Err(Fault::Field.at(0));
     }
     let length = (l.length as u64) * 1_000_000;
     let from = number * length;
-    let taken = take_frames(s, n, from, from + length, l.dl, l.jt);
-    match taken {
-        Taken::All(t) => Judged::Good(finish(t, number as u32, maintenance == 1)),
-        Taken::Not(r) => Judged::Bad(r),
-    }
-}
-
-fn bad(fault: Fault) -> Judged
-    ensures { result ≡ Judged.Bad (refusal fault 0) }
-{
-    Judged::Bad(Refusal { fault, place: 0 })
-}
-
-fn refused(fault: Fault) -> Answer
-    ensures { result ≡ Answer.Refused (refusal fault 0) }
-{
-    Answer::Refused(Refusal { fault, place: 0 })
+    let t = take_frames(s, n, from, from + length, l.dl, l.jt)?;
+    Ok(finish(t, number as u32, maintenance == 1))
 }
 
 // The interval record of the frames, written into 48 bytes of `out` from `at` on, or the refusal that goes before all others.
@@ -221,24 +155,15 @@ pub fn interval(
     maintenance: u64,
     out: &mut [u8],
     at: usize,
-) -> Answer
+) -> Result<(), Refusal>
     ensures { Outcome settings.now frames.now number maintenance out.old at result out.new }
 {
-    let SettingsRead::Valid(v) = settings::read(settings) else {
-        return refused(Fault::Settings);
-    };
-    let Counted::Whole(n) = many::count(frames.len(), 16) else {
-        return refused(Fault::Length);
-    };
+    let v = settings::read(settings).ok_or(Fault::Settings)?;
+    let n = many::count(frames.len(), 16).ok_or(Fault::Length)?;
     if !room::has_room(out.len(), at, 48) {
-        return refused(Fault::Room);
+        return Err(Fault::Room.at(0));
     }
-    let judged = judge(v.label, frames, n, number, maintenance);
-    match judged {
-        Judged::Good(i) => {
-            intervals::put(&mut out[at..at + 48], i);
-            Answer::Written
-        }
-        Judged::Bad(r) => Answer::Refused(r),
-    }
+    let i = judge(v.label, frames, n, number, maintenance)?;
+    intervals::put(&mut out[at..at + 48], i);
+    Ok(())
 }

@@ -2,11 +2,12 @@
 -- Assumes nothing.
 use mathlib.Core.Path.{◌≡◌, refl, ap, sym, ◌∙◌}
 use mathlib.Core.List.{List, [], ◌∷◌, ◌++◌}
-use Prim.Native.Nat.{ℕ, zero, suc, ◌+◌, ◌*◌, ◌/◌, ◌%◌, ◌^◌, ◌≤◌, ◌<◌}
-use native.Mathlib.Nat.{pow-suc, pow-succ', mul_assoc, div-div-eq-div-mul}
+use Prim.Native.Nat.{ℕ, zero, suc, min, ◌+◌, ◌*◌, ◌/◌, ◌%◌, ◌^◌, ◌≤◌, ◌<◌}
+use native.Mathlib.Nat.{min-eq_left, le-min, pow-suc, pow-succ', mul_assoc, div-div-eq-div-mul}
 use native.Mathlib.Omega.{arith}
+use native.Mathlib.Decide.{dec_le}
 use lib.Arith.{mod-mul}
-use lib.ListN.{length, get_or, set, drop, length-set, get_or-eq_default, drop_of_length-le}
+use lib.ListN.{length, get_or, set, take, drop, length-set, get_or-eq_default, drop_of_length-le}
 use lib.Seq.{sets, set_out, drop-cons, get_or-set_same, get_or-set_other}
 use Rattle.numbers.specs.Bytes.{number, bytes_of, part, number_at, Bytes}
 
@@ -180,3 +181,31 @@ read_put w x l i fits room =
 pub part_bytes : (w : ℕ) (s : List ℕ) (i : ℕ) → Bytes s → bytes_of w (number_at w s i) ≡ part w s i
 unfolding number_at
 part_bytes w s i h = ap (λ k. bytes_of k (number (part w s i))) (sym (length_part w s i)) ∙ bytes_of_number (part w s i) (part_is_bytes w s i h)
+
+-- the bytes that are there
+pub part_take : (w : ℕ) (s : List ℕ) (i : ℕ) → i + w ≤ length s → take w (drop i s) ≡ part w s i
+unfolding part
+part_take zero s i h = refl
+part_take (suc w) s i h =
+    rw (drop-cons s i 0 (omega arith)) (ap (λ (l : List ℕ). get_or s i 0 ∷ l) (part_take w s (suc i) (omega arith)))
+
+-- one byte more
+pub part_more : (w : ℕ) (s : List ℕ) (i : ℕ) → part (w + 1) s i ≡ part w s i ++ get_or s (i + w) 0 ∷ []
+unfolding part
+part_more w s i = part_append w 1 s i
+
+-- a place that stopped short of what no machine word holds is past the end all the same
+
+pub get_far : (s : List ℕ) (j m : ℕ) → length s ≤ m → get_or s (min j m) 0 ≡ get_or s j 0
+get_far s j m h =
+    elim (dec_le j m) [
+      | yes q ↦ ap (λ i. get_or s i 0) (min-eq_left q)
+      | no q ↦ get_or-eq_default s 0 (le-min (omega arith) h) ∙ sym (get_or-eq_default s 0 (omega arith))
+    ]
+
+pub set_far : (l : List ℕ) (j m x : ℕ) → length l ≤ m → set l (min j m) x ≡ set l j x
+set_far l j m x h =
+    elim (dec_le j m) [
+      | yes q ↦ ap (λ i. set l i x) (min-eq_left q)
+      | no q ↦ set_out l (min j m) x (le-min (omega arith) h) ∙ sym (set_out l j x (omega arith))
+    ]

@@ -2,7 +2,7 @@
 -- Assumes nothing.
 use mathlib.Core.Path.{◌≡◌, ap, sym, ◌∙◌}
 use mathlib.Core.Bool.{true, false}
-use mathlib.Core.List.{List, ◌++◌, append-nil}
+use mathlib.Core.List.{List, ◌++◌, append-nil, append_assoc}
 use Prim.Native.Nat.{ℕ, ◌+◌, ◌-◌, ◌≤◌, ◌<◌}
 use native.Mathlib.Omega.{arith}
 use native.Mathlib.Decide.{dec_le}
@@ -31,6 +31,12 @@ room_left len at size h =
       | yes q ↦ le-leb at (len - size) (omega arith) ∙ sym (le-leb (at + size) len q)
       | no q ↦ lt-leb at (len - size) (omega arith) ∙ sym (lt-leb (at + size) len (omega arith))
     ]
+
+-- a part that is written over whole
+pub put_whole : {A : Type 0} (i k : ℕ) (s bs : List A) → k ≡ length bs → i + k ≤ length s → put_mid i k s bs ≡ sets s i bs
+put_whole i k s bs e h =
+    let there : i + length bs ≤ length s = omega arith in
+    rw (e, drop-drop) (sym (sets-eq bs s i there ∙ append_assoc (take i s) bs (drop (i + length bs) s)))
 
 -- a part that is filled whole, and the buffer that it was lent from
 

@@ -1,13 +1,12 @@
 -- A slice of many records of one size.
-use Rattle.std.specs.Prelude.{ℕ, zero, suc, ◌*◌, ◌/◌, ◌%◌, Bool, true, false, cond, ◌&&◌, List, [], ◌∷◌, length, take, drop, ltb, eqb}
-use Rattle.numbers.specs.declared.many.Counted.{Counted}
+use Rattle.std.specs.Prelude.{ℕ, zero, suc, ◌*◌, ◌/◌, ◌%◌, Bool, true, false, cond, ◌&&◌, List, [], ◌∷◌, length, take, drop, ltb, eqb, Option, Some, None}
 
-abbrev pub whole_if : Bool → ℕ → Counted
-whole_if true n = Counted.Whole n
-whole_if false n = Counted.Ragged
+abbrev pub whole_if : Bool → ℕ → Option ℕ
+whole_if true n = Some n
+whole_if false n = None
 
 -- how many records of `size` bytes are `len` bytes
-unfoldable pub count_of : ℕ → ℕ → Counted
+unfoldable pub count_of : ℕ → ℕ → Option ℕ
 count_of len size = whole_if (ltb 0 size && eqb (len % size) 0) (len / size)
 
 -- the k-th record of `size` bytes, or nothing where `s` does not hold it

@@ -1,24 +1,32 @@
 // Little-endian numbers out of bytes and into bytes that the caller knows to be there: what `bytes` does, with no test of an index.
-ghost use Rattle.std.specs.Prelude.{◌≡◌, [], ◌∷◌, ◌+◌, ◌≤◌, length};
+ghost use Rattle.std.specs.Prelude.{◌≡◌, ◌+◌, ◌≤◌, length};
 ghost use Rattle.std.proofs.lemmas.List.Edits.{sets};
-ghost use Rattle.numbers.specs.Bytes.{number_at, bytes_of, are_zero};
+ghost use Rattle.numbers.specs.Bytes.{part, number_at, bytes_of, are_zero};
 
-use crate::bytes;
+// The `N` bytes from `i` on.
+fn get<const N: usize>(s: &[u8], i: usize) -> [u8; N]
+    requires { i + N ≤ length s.now }
+    ensures { result ≡ part N s.now i }
+{
+    *s[i..].first_chunk().unwrap()
+}
 
 // The number in the four bytes from `i` on.
+#[tactic(auto, using(crate::proofs::LittleEndian::from_four))]
 pub fn get_u32(s: &[u8], i: usize) -> u32
     requires { i + 4 ≤ length s.now }
     ensures { result ≡ number_at 4 s.now i }
 {
-    bytes::of_four(s[i], s[i + 1], s[i + 2], s[i + 3])
+    u32::from_le_bytes(get(s, i))
 }
 
 // The number in the eight bytes from `i` on.
+#[tactic(auto, using(crate::proofs::LittleEndian::from_eight))]
 pub fn get_u64(s: &[u8], i: usize) -> u64
     requires { i + 8 ≤ length s.now }
     ensures { result ≡ number_at 8 s.now i }
 {
-    bytes::of_halves(get_u32(s, i), get_u32(s, i + 4))
+    u64::from_le_bytes(get(s, i))
 }
 
 // Whether the `count` bytes from `i` on are 0.
@@ -27,51 +35,36 @@ pub fn are_zero(s: &[u8], i: usize, count: usize) -> bool
     ensures { result ≡ are_zero count s.now i }
 {
     let mut all = true;
-    let mut at = i;
-    let mut left = count;
-    while 0 < left {
-        all = all & (s[at] == 0);
-        at += 1;
-        left -= 1;
+    for &b in &s[i..i + count] {
+        all &= b == 0;
     }
     all
 }
 
-// Four bytes put from `i` on.
-fn put_four(out: &mut [u8], i: usize, a: u8, b: u8, c: u8, d: u8)
-    requires { i + 4 ≤ length out.old }
-    ensures { out.new ≡ sets out.old i (a ∷ b ∷ c ∷ d ∷ []) }
+// Bytes put from `i` on.
+fn put<const N: usize>(out: &mut [u8], i: usize, all: [u8; N])
+    requires { i + N ≤ length out.old }
+    ensures { out.new ≡ sets out.old i all.entry }
 {
-    out[i] = a;
-    out[i + 1] = b;
-    out[i + 2] = c;
-    out[i + 3] = d;
+    out[i..i + N].copy_from_slice(&all);
 }
 
 // A number put into the four bytes from `i` on.
+#[tactic(auto, using(crate::proofs::LittleEndian::to_four))]
 pub fn put_u32(out: &mut [u8], i: usize, x: u32)
     requires { i + 4 ≤ length out.old }
     ensures { out.new ≡ sets out.old i (bytes_of 4 x) }
 {
-    let y = x / 256;
-    let z = y / 256;
-    put_four(
-        out,
-        i,
-        (x % 256) as u8,
-        (y % 256) as u8,
-        (z % 256) as u8,
-        (z / 256 % 256) as u8,
-    );
+    put(out, i, x.to_le_bytes());
 }
 
 // A number put into the eight bytes from `i` on.
+#[tactic(auto, using(crate::proofs::LittleEndian::to_eight))]
 pub fn put_u64(out: &mut [u8], i: usize, x: u64)
     requires { i + 8 ≤ length out.old }
     ensures { out.new ≡ sets out.old i (bytes_of 8 x) }
 {
-    put_u32(out, i, (x % 4_294_967_296) as u32);
-    put_u32(out, i + 4, (x / 4_294_967_296) as u32);
+    put(out, i, x.to_le_bytes());
 }
 
 // As many zeros as `count` put from `i` on.
@@ -79,7 +72,5 @@ pub fn put_zeros(out: &mut [u8], i: usize, count: usize)
     requires { i + count ≤ length out.old }
     ensures { out.new ≡ sets out.old i (bytes_of count 0) }
 {
-    for k in 0..count {
-        out[i + k] = 0;
-    }
+    out[i..i + count].fill(0);
 }

@@ -2,24 +2,17 @@
 ghost use Rattle.std.specs.Prelude.{◌≡◌, length};
 ghost use Rattle.numbers.specs.Many.{count_of, record_at};
 
-#[derive(Clone, Copy)]
-pub enum Counted {
-    // so many records, and nothing behind them
-    Whole(usize),
-    Ragged,
-}
-
-// How many records of `size` bytes are `len` bytes.
-pub fn count(len: usize, size: usize) -> Counted
+// How many records of `size` bytes are `len` bytes; none where a part of one stands behind the last.
+pub fn count(len: usize, size: usize) -> Option<usize>
     ensures { result ≡ count_of len size }
 {
     if size == 0 {
-        return Counted::Ragged;
+        return None;
     }
     if len % size == 0 {
-        Counted::Whole(len / size)
+        Some(len / size)
     } else {
-        Counted::Ragged
+        None
     }
 }
 

@@ -1,8 +1,9 @@
 -- Counting in 2,048 buckets of one width: where a delay is counted, and what a table holds after a part of the list.
-use Rattle.std.proofs.Common.{◌≡◌, ℕ, ◌+◌, ◌-◌, ◌*◌, ◌/◌, ◌%◌, ◌^◌, ◌<◌, ◌≤◌, eqb, ltb, List, length, get_or, drop, set, replicate, ap, ◌∙◌, zero-le, mul-le-mul_right, div-lt_iff_lt-mul, zero-add, div-mul-le_self, arith, length-set, eq-eqb, ne_eqb}
+use Rattle.std.proofs.Common.{◌≡◌, ℕ, ◌+◌, ◌-◌, ◌*◌, ◌/◌, ◌%◌, ◌^◌, ◌<◌, ◌≤◌, eqb, ltb, List, length, get_or, take, drop, set, replicate, ap, ◌∙◌, zero-le, mul-le-mul_right, div-lt_iff_lt-mul, zero-add, div-mul-le_self, arith, length-set, eq-eqb, ne_eqb}
 use native.Mathlib.Decide.{dec_le, dec_lt}
 use native.Mathlib.Nat.{lt-div-mul-add}
 use lib.ListN.{length-replicate, get_or-replicate, get_or-eq_default}
+use Rattle.std.proofs.lemmas.List.{get_or-take, length-take-le}
 use Rattle.percentile.specs.Percentile.{hit}
 use Rattle.percentile.specs.Ranks.{below, Slot, Tally, Front, Ranked}
 use Rattle.percentile.specs.declared.table.Mark.{Mark}
@@ -170,21 +171,24 @@ tallied_end xs lo w i t h v b p =
       count_none (λ x. ltb x (lo + b * w)) xs,
     )
 
--- the walk over the table t of buckets of width w from lo₀ on: bucket q begins at lo, with `under` delays below it, fewer than k
-pub record Walk (k : ℕ) (xs : List ℕ) (lo₀ w : ℕ) (t : List ℕ) (q lo under : ℕ) : Type 0 where
-  pub table : Tally xs lo₀ w t
+-- the walk over t, the counts of all but the last of 2,048 buckets of width w from lo₀ on: bucket q begins at the mark, below which are
+-- fewer than k delays
+pub record Walk (k : ℕ) (xs : List ℕ) (lo₀ w : ℕ) (t : List ℕ) (q : ℕ) (m : Mark) : Type 0 where
+  pub long : length t ≡ 2047
+  pub table : (b : ℕ) → b < 2047 → below (lo₀ + (b + 1) * w) xs ≡ get_or t b 0 + below (lo₀ + b * w) xs
   pub reached : k ≤ below (lo₀ + 2048 * w) xs
   pub short : q ≤ 2047
-  pub at : lo ≡ lo₀ + q * w
-  pub counted : under ≡ below lo xs
-  pub before : under < k
+  pub at : m.lo ≡ lo₀ + q * w
+  pub counted : m.under ≡ below m.lo xs
+  pub before : m.under < k
 
 -- w' is w, as the code computed it
-pub walk_start : (k : ℕ) (xs : List ℕ) (w w' : ℕ) (t : List ℕ) (lo under : ℕ) → w' ≡ w → Tally xs lo w t
-    → Front k xs (2048 * w) (record { lo = lo; under = under }) → Walk k xs lo w' t 0 lo under
-walk_start k xs w w' t lo under e h f =
+pub walk_start : (k : ℕ) (xs : List ℕ) (w w' : ℕ) (t : List ℕ) (m : Mark) → length t ≡ 2056 → w' ≡ w → Tally xs m.lo w t
+    → Front k xs (2048 * w) m → Walk k xs m.lo w' (take 2047 t) 0 m
+walk_start k xs w w' t m l e h f =
     record {
-      table = rw e h;
+      long = length-take-le 2047 t (omega arith);
+      table = λ b p. rw (e, get_or-take 2047 t b 0 p) (h b (omega arith));
       reached = rw e f.reached;
       short = omega arith;
       at = omega arith;
@@ -197,71 +201,75 @@ module _
     (xs : List ℕ)
     (lo₀ w : ℕ)
     (t : List ℕ)
-    (q lo under : ℕ)
-    (v : Walk k xs lo₀ w t q lo under)
+    (q : ℕ)
+    (m : Mark)
+    (v : Walk k xs lo₀ w t q m)
   where
-    next_lo : lo + w ≡ lo₀ + (q + 1) * w
+    next_lo : m.lo + w ≡ lo₀ + (q + 1) * w
     next_lo = omega (arith, v.at)
 
     -- the delays below the next bucket
-    next_under : below (lo + w) xs ≡ under + get_or t q 0
-    next_under =
+    next_under : q < length t → below (m.lo + w) xs ≡ m.under + get_or t q 0
+    next_under h =
         omega (
           arith,
           v.counted,
-          v.table q (omega (arith, v.short)),
+          v.table q (omega (arith, v.long)),
           ap (λ (z : ℕ). below z xs) next_lo,
           ap (λ (z : ℕ). below z xs) v.at,
         )
 
-    pub walk_count : under + get_or t q 0 ≤ length xs
-    walk_count = omega (arith, next_under, count_le (λ x. ltb x (lo + w)) xs)
+    pub walk_count : q < length t → m.under + get_or t q 0 ≤ length xs
+    walk_count h = omega (arith, next_under h, count_le (λ x. ltb x (m.lo + w)) xs)
 
-    pub walk_step : q < 2047 → under + get_or t q 0 < k → Walk k xs lo₀ w t (q + 1) (lo + w) (under + get_or t q 0)
-    walk_step p b =
+    pub walk_step : q < length t → m.under + get_or t q 0 < k
+        → Walk k xs lo₀ w t (q + 1) (record { lo = m.lo + w; under = m.under + get_or t q 0 })
+    walk_step h b =
         record {
+          long = v.long;
           table = v.table;
           reached = v.reached;
-          short = omega arith;
+          short = omega (arith, v.long);
           at = next_lo;
-          counted = omega (arith, next_under);
+          counted = omega (arith, next_under h);
           before = b;
         }
 
     -- rank k lies in bucket q
-    pub walk_found : (w' : ℕ) → w ≡ w' → k ≤ under + get_or t q 0 → Front k xs w' (record { lo = lo; under = under })
-    walk_found w' e b =
+    pub walk_found : (w' : ℕ) → w ≡ w' → q < length t → k ≤ m.under + get_or t q 0 → Front k xs w' m
+    walk_found w' e h b =
         record {
           counted = v.counted;
           before = v.before;
-          reached = omega (arith, next_under, ap (λ (z : ℕ). below (lo + z) xs) e);
+          reached = omega (arith, next_under h, ap (λ (z : ℕ). below (m.lo + z) xs) e);
         }
 
     -- the last bucket needs no look: rank k lies below its end
-    pub walk_last : (w' : ℕ) → w ≡ w' → 2047 ≤ q → Front k xs w' (record { lo = lo; under = under })
+    pub walk_last : (w' : ℕ) → w ≡ w' → length t ≤ q → Front k xs w' m
     walk_last w' e p =
-        let m : q * w ≡ 2047 * w = ap (λ (z : ℕ). z * w) (omega (arith, v.short)) in
-        let f : lo + w ≡ lo₀ + 2048 * w = omega (arith, v.at) in
+        let z : q * w ≡ 2047 * w = ap (λ (z : ℕ). z * w) (omega (arith, v.short, v.long)) in
+        let f : m.lo + w ≡ lo₀ + 2048 * w = omega (arith, v.at) in
         record {
           counted = v.counted;
           before = v.before;
           reached =
-              omega (arith, v.reached, ap (λ (z : ℕ). below z xs) f, ap (λ (z : ℕ). below (lo + z) xs) e);
+              omega (arith, v.reached, ap (λ (z : ℕ). below z xs) f, ap (λ (z : ℕ). below (m.lo + z) xs) e);
         }
 
     -- a bucket that begins above all delays is never reached
-    pub walk_fits : (top : ℕ) → under + get_or t q 0 < k → ((i : ℕ) → i < length xs → get_or xs i 0 < top) → lo + w < top
-    walk_fits top b all =
-        elim (dec_lt (lo + w) top) [
+    pub walk_fits : (top : ℕ) → q < length t → m.under + get_or t q 0 < k → ((i : ℕ) → i < length xs → get_or xs i 0 < top)
+        → m.lo + w < top
+    walk_fits top h b all =
+        elim (dec_lt (m.lo + w) top) [
           | yes r ↦ r
           | no r ↦
               omega (
                 arith,
-                next_under,
+                next_under h,
                 v.reached,
                 count_le (λ x. ltb x (lo₀ + 2048 * w)) xs,
                 below_all top xs all,
-                below_mono top (lo + w) xs (omega arith),
+                below_mono top (m.lo + w) xs (omega arith),
               )
         ]
 

@@ -1,5 +1,5 @@
 -- The loop of `gather`: what has been kept and what is left of the list to keep are all that is to be kept.
-use Rattle.std.proofs.Common.{◌≡◌, ℕ, ◌+◌, ◌<◌, ◌≤◌, Bool, true, false, cond, List, [], ◌∷◌, ◌++◌, length, get_or, take, drop, set, sym, refl, ap, ◌∙◌, append_assoc, append-nil, le_refl, add-zero, add-one, arith, length-set, drop-cons, take-suc-set}
+use Rattle.std.proofs.Common.{◌≡◌, ℕ, ◌+◌, ◌<◌, ◌≤◌, Bool, true, false, cond, List, [], ◌∷◌, ◌++◌, length, get_or, take, drop, set, sym, ap, ◌∙◌, append_assoc, append-nil, le_refl, add-zero, add-one, arith, length-set, drop-cons, take-suc-set}
 use lib.Seq.{drop-length, take-set-le}
 use Rattle.percentile.specs.Percentile.{hit, how_many, keep}
 use Rattle.percentile.specs.Ranks.{Collected}
@@ -11,9 +11,6 @@ pub record Gathered (f : ℕ → Bool) (xs : List ℕ) (room n i : ℕ) (few : L
   pub long : length few ≡ room
   pub counted : n + how_many f (drop i xs) ≡ how_many f xs
   pub content : take n few ++ keep f (drop i xs) ≡ keep f xs
-
-pub gathered_start : (f : ℕ → Bool) (xs few : List ℕ) → Gathered f xs (length few) 0 0 few
-gathered_start f xs few = record { within = omega arith; long = refl; counted = omega arith; content = refl }
 
 keep_step : (f : ℕ → Bool) (xs : List ℕ) (i : ℕ) → i < length xs
     → keep f (drop i xs) ≡ cond (f (get_or xs i 0)) (get_or xs i 0 ∷ keep f (drop (i + 1) xs)) (keep f (drop (i + 1) xs))

@@ -1,23 +1,17 @@
--- A sample of m delays: the i-th stands for place i × n / m of n, so each is a listed one; a rank among n becomes one among m; and
--- of two delays the one of the lesser rank is no greater.
+-- A sample of m delays: the i-th stands for place i × n / m of n, so each is a listed one; and of two delays the one of the lesser rank is no greater.
 use Rattle.std.proofs.Common.{◌≡◌, ℕ, zero, suc, ◌+◌, ◌*◌, ◌/◌, ◌<◌, ◌≤◌, ◌⊎◌, List, [], ◌∷◌, length, get_or, set, sym, refl, ◌∙◌, subst, inl, inr, ⊎_elim, mul-le-mul_right, arith, length-set, get_or-set_other, get_or-set_same}
 use mathlib.Core.List.Memᴰ
 use mathlib.Core.List.{Memᴰ}
 use native.Mathlib.Decide.{dec_le, dec_lt}
-use native.Mathlib.Nat.{div-le_of_le-mul}
 use Rattle.percentile.specs.Ranks.{Ranked, Drawn, EndOrListed, Chosen}
 use Rattle.percentile.proofs.Counts.{at_most_below, below_mono}
 use Rattle.percentile.proofs.Percentile.{listed_here}
 
-pub spread_most : (i n : ℕ) → i < 16384 → i * n ≤ 16383 * n
+spread_most : (i n : ℕ) → i < 16384 → i * n ≤ 16383 * n
 spread_most i n h = mul-le-mul_right n (omega arith)
 
 pub spread_within : (i n : ℕ) → i < 16384 → 0 < n → i * n / 16384 < n
 spread_within i n h p = omega (arith, spread_most i n h)
-
--- a rank among n becomes one among 16,384
-pub rank_within : (k n : ℕ) → k ≤ n → k * 16384 / n ≤ 16384
-rank_within k n h = div-le_of_le-mul n (omega (arith, mul-le-mul_right 16384 h))
 
 listed_at : (xs : List ℕ) (i : ℕ) → i < length xs → Memᴰ (get_or xs i 0) xs
 listed_at [] i h = absurd (omega arith)
@@ -30,9 +24,6 @@ pub record Drawing (xs few₀ few : List ℕ) (i : ℕ) : Type 0 where
   pub drawn : (j : ℕ) → j < i → Memᴰ (get_or few j 0) xs
 
 module _ (xs few₀ : List ℕ) where
-  pub drawing_start : Drawing xs few₀ few₀ 0
-  drawing_start = record { long = refl; drawn = λ j h. absurd (omega arith) }
-
   pub drawing_step : (few : List ℕ) (i q : ℕ) → i < length few₀ → q < length xs → Drawing xs few₀ few i
       → Drawing xs few₀ (set few i (get_or xs q 0)) (i + 1)
   drawing_step few i q h p v =

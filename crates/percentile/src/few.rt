@@ -1,9 +1,13 @@
 // The delay of a given rank in two passes over a long list. A sample gives two delays that most likely stand close below and
 // above it; one pass counts against both, and one collects the few delays between them. A sample can mislead and cost time,
 // and nothing else: what the counts do not settle goes to `table::search`.
-ghost use Rattle.std.specs.Prelude.{◌≡◌, ℕ, ◌^◌, ◌<◌, ◌≤◌, min, length};
+// A list and a rank in it go into `choose`, `ranked` and `search` as two parameters: a struct is no plainer, since it would be built at four places, and
+// would state twice, at its field and where it is made, the clause that stands three times now.
+ghost use Rattle.std.specs.Prelude.{◌≡◌, ℕ, ◌^◌, ◌<◌, ◌≤◌, length};
 ghost use Rattle.percentile.specs.Percentile.{keep, how_many};
 ghost use Rattle.percentile.specs.Ranks.{Ranked, Surveyed, Collected, Drawn, Chosen, inside};
+
+use crate::table;
 
 // Room for the delays between the pivots. A list of this length or less is searched directly.
 const FEW: usize = 32_768;
@@ -34,59 +38,41 @@ pub struct Counts {
     pub upto_hi: u32,
 }
 
-// The lesser of two.
-fn lesser(a: u32, b: u32) -> u32
-    ensures { result ≡ min a b }
-{
-    if a < b { a } else { b }
-}
-
-// The least delay, and the counts at the largest delay allowed and at both pivots.
+// The least delay, and the counts at the largest delay allowed and at both pivots. Nothing in the loop branches: over many delays a branch
+// would often be guessed wrong.
 pub fn survey(list: &[u32], largest: u32, p: Pivots) -> Counts
     requires { (0 < length list.now) × (length list.now < 2 ^ 32) }
     ensures { Surveyed list.now largest p result }
 {
-    let lo = p.lo;
-    let hi = p.hi;
-    let mut least = list[0];
-    let mut within = 0;
-    let mut under_lo = 0;
-    let mut upto_lo = 0;
-    let mut under_hi = 0;
-    let mut upto_hi = 0;
-    let mut i = 0;
-    while i < list.len() {
-        let x = list[i];
-        least = lesser(least, x);
-        within += (x <= largest) as u32;
-        under_lo += (x < lo) as u32;
-        upto_lo += (x <= lo) as u32;
-        under_hi += (x < hi) as u32;
-        upto_hi += (x <= hi) as u32;
-        i += 1;
+    let mut s = Counts {
+        least: list[0],
+        within: 0,
+        under_lo: 0,
+        upto_lo: 0,
+        under_hi: 0,
+        upto_hi: 0,
+    };
+    for &x in list {
+        s.least = s.least.min(x);
+        s.within += (x <= largest) as u32;
+        s.under_lo += (x < p.lo) as u32;
+        s.upto_lo += (x <= p.lo) as u32;
+        s.under_hi += (x < p.hi) as u32;
+        s.upto_hi += (x <= p.hi) as u32;
     }
-    Counts {
-        least,
-        within,
-        under_lo,
-        upto_lo,
-        under_hi,
-        upto_hi,
-    }
+    s
 }
 
-// Collects the delays strictly between lo and hi. Each is stored; only those between are kept.
-fn gather(list: &[u32], lo: u32, hi: u32, few: &mut [u32]) -> usize
-    requires { how_many (inside lo hi) list.now < length few.old }
-    ensures { Collected (inside lo hi) list.now few.new result }
+// Collects the delays strictly between the pivots. Each is stored; only those between are kept: a loop, and no `filter`, so that nothing
+// branches.
+fn gather(list: &[u32], p: Pivots, few: &mut [u32]) -> usize
+    requires { how_many (inside p.lo p.hi) list.now < length few.old }
+    ensures { Collected (inside p.lo p.hi) list.now few.new result }
 {
     let mut n = 0;
-    let mut i = 0;
-    while i < list.len() {
-        let x = list[i];
+    for &x in list {
         few[n] = x;
-        n += ((lo < x) & (x < hi)) as usize;
-        i += 1;
+        n += ((p.lo < x) & (x < p.hi)) as usize;
     }
     n
 }
@@ -96,9 +82,9 @@ fn between(list: &[u32], p: Pivots, k: u32) -> u32
     requires { (0 < k) × (k ≤ how_many (inside p.lo p.hi) list.now) × (how_many (inside p.lo p.hi) list.now < 32768) }
     ensures { Ranked k (keep (inside p.lo p.hi) list.now) result }
 {
-    let mut few = [0u32; FEW];
-    let n = gather(list, p.lo, p.hi, &mut few);
-    crate::table::search(&few[..n], k)
+    let mut few = [0; FEW];
+    let n = gather(list, p, &mut few);
+    table::search(&few[..n], k)
 }
 
 // The delay of rank k, from what a survey found at the pivots.
@@ -106,35 +92,29 @@ pub fn ranked(list: &[u32], p: Pivots, s: Counts, k: u32) -> u32
     requires { (0 < k) × (k ≤ length list.now) × (length list.now < 2 ^ 32) × ((largest : ℕ) × Surveyed list.now largest p s) }
     ensures { Ranked k list.now result }
 {
-    if s.under_lo < k {
-        if k <= s.upto_lo {
-            return p.lo;
-        }
-        if k <= s.under_hi {
-            if p.lo < p.hi {
-                if ((s.under_hi - s.upto_lo) as usize) < FEW {
-                    return between(list, p, k - s.upto_lo);
-                }
-            }
-        }
+    if s.under_lo < k && k <= s.upto_lo {
+        return p.lo;
     }
-    if s.under_hi < k {
-        if k <= s.upto_hi {
-            return p.hi;
-        }
+    if s.under_hi < k && k <= s.upto_hi {
+        return p.hi;
     }
-    crate::table::search(list, k)
+    if p.lo < p.hi
+        && s.upto_lo < k
+        && k <= s.under_hi
+        && ((s.under_hi - s.upto_lo) as usize) < FEW
+    {
+        return between(list, p, k - s.upto_lo);
+    }
+    table::search(list, k)
 }
 
 // Delays from all over the list.
-fn sample(list: &[u32], few: &mut [u32])
-    requires { (0 < length list.now) × (length list.now < 2 ^ 32) × (length few.old ≡ 16384) }
+fn sample(list: &[u32], few: &mut [u32; SAMPLE])
+    requires { (0 < length list.now) × (length list.now < 2 ^ 32) }
     ensures { Drawn list.now few.new }
 {
-    let mut i = 0;
-    while i < SAMPLE {
-        few[i] = list[i * list.len() / SAMPLE];
-        i += 1;
+    for (i, drawn) in few.iter_mut().enumerate() {
+        *drawn = list[i * list.len() / SAMPLE];
     }
 }
 
@@ -146,16 +126,18 @@ pub fn choose(list: &[u32], k: u32) -> Pivots
     if list.len() <= FEW {
         return Pivots { lo: 0, hi: 0 };
     }
-    let mut few = [0u32; SAMPLE];
+    let mut few = [0; SAMPLE];
     sample(list, &mut few);
     let at = (k as usize * SAMPLE / list.len()) as u32;
-    let mut lo = 0;
-    if MARGIN < at {
-        lo = crate::table::search(&few, at - MARGIN);
-    }
-    let mut hi = 0xffff_ffff;
-    if at <= SAMPLE as u32 - MARGIN {
-        hi = crate::table::search(&few, at + MARGIN);
-    }
+    let lo = if MARGIN < at {
+        table::search(&few, at - MARGIN)
+    } else {
+        0
+    };
+    let hi = if at <= SAMPLE as u32 - MARGIN {
+        table::search(&few, at + MARGIN)
+    } else {
+        u32::MAX
+    };
     Pivots { lo, hi }
 }

@@ -9,29 +9,37 @@ struct Mark {
     under: u32,
 }
 
+// Buckets in a table, and spare places behind them.
+const BUCKETS: usize = 2048;
+
+const SPARE: usize = 8;
+// Both.
+const PLACES: usize = BUCKETS + SPARE;
+
 // The bucket of x among 2,048 of width 2^s from lo on, or `spare` behind them for what lies outside. What is below lo wraps to above
 // all.
 fn slot(x: u32, lo: u32, s: u32, spare: usize) -> usize
     requires { (s < 32) × (2048 ≤ spare) × (spare < 2056) }
     ensures { Slot lo (2 ^ s) x result }
 {
-    let from_lo = std::num::wrapping_sub_u64(x as u64, lo as u64);
+    let from_lo = (x as u64).wrapping_sub(lo as u64);
     let q = from_lo >> s;
-    if q < 2048 { q as usize } else { spare }
+    if q < BUCKETS as u64 {
+        q as usize
+    } else {
+        spare
+    }
 }
 
 // How many delays fall into each bucket. Those outside go to eight spare places in turn: one place would have each delay wait for
 // the one before it, and a branch would be guessed wrong.
-fn tally(list: &[u32], lo: u32, s: u32) -> [u32; 2056]
+fn tally(list: &[u32], lo: u32, s: u32) -> [u32; PLACES]
     requires { (s < 32) × (length list.now < 2 ^ 32) }
     ensures { Tally list.now lo (2 ^ s) result }
 {
-    let mut t = [0u32; 2056];
-    let mut i = 0;
-    while i < list.len() {
-        let q = slot(list[i], lo, s, 2048 + i % 8);
-        t[q] = t[q] + 1;
-        i += 1;
+    let mut t = [0; PLACES];
+    for (i, &x) in list.iter().enumerate() {
+        t[slot(x, lo, s, BUCKETS + i % SPARE)] += 1;
     }
     t
 }
@@ -41,7 +49,7 @@ fn width_of(s: u32) -> u32
     requires { s < 32 }
     ensures { result ≡ 2 ^ s }
 {
-    1u32 << s
+    1 << s
 }
 
 // From 2,048 buckets to the one that holds rank k.
@@ -51,19 +59,18 @@ fn narrow(list: &[u32], from: Mark, s: u32, k: u32) -> Mark
 {
     let t = tally(list, from.lo, s);
     let width = width_of(s);
-    let mut lo = from.lo;
-    let mut under = from.under;
-    let mut q = 0;
-    while q < 2047 {
-        let next = under + t[q];
+    let mut at = from;
+    for &count in &t[..BUCKETS - 1] {
+        let next = at.under + count;
         if k <= next {
-            return Mark { lo, under };
+            return at;
         }
-        lo += width;
-        under = next;
-        q += 1;
+        at = Mark {
+            lo: at.lo + width,
+            under: next,
+        };
     }
-    Mark { lo, under }
+    at
 }
 
 // The delay of rank k: fewer than k delays are below it, k or more at or below it.

@@ -5,6 +5,7 @@ use mathlib.Core.Path.{◌≡◌, refl, ap, sym, ◌∙◌, subst}
 use mathlib.Core.List.{List}
 use Prim.Native.Nat.{ℕ, ◌+◌, ◌-◌, ◌<◌, ◌≤◌}
 use native.Mathlib.Omega.{arith}
+use Rattle.std.specs.Prelude.{Option, Some, None}
 use Rattle.numbers.specs.Limits.{intervals}
 use Rattle.settings.specs.declared.LabelSettings.{LabelSettings}
 use Rattle.tracks.specs.declared.Track.{Track}
@@ -13,20 +14,19 @@ use Rattle.tracks.specs.Valid.{TrackValid, JoinFits, TrackFits}
 use Rattle.tracks.proofs.Keeping.{join_valid, quiet_valid}
 use Rattle.tracks.proofs.Serving.{count_valid}
 use Rattle.summaries.specs.Stored.{summary_of}
-use Rattle.summaries.specs.declared.SummaryRead.{SummaryRead}
 use Rattle.summaries.proofs.Validity.{SummaryValid, summary_valid}
 use Rattle.periods.specs.Between.{BetweenFits}
 use Rattle.periods.specs.Stretches.{held_if, stretch_of, Known, stretch_held, first_held, after_held, label_held}
 use Rattle.periods.specs.declared.Stretch.{Stretch}
-use Rattle.periods.specs.declared.StretchRead.{StretchRead}
+use Rattle.summaries.specs.declared.Summary.{Summary}
 
 -- what is read is a summary that meets every rule
 
-held_by : (s : List ℕ) (a : Stretch) (r : SummaryRead) → summary_of s ≡ r → held_if r ≡ StretchRead.Valid a → SummaryValid a.held
-held_by s a (SummaryRead.Valid v) f g = let e : ◌≡◌ {A = Stretch} (record { held = v }) a = cc in summary_valid s a.held (f ∙ ap (λ x. SummaryRead.Valid x.held) e)
-held_by s a SummaryRead.Invalid f g = let z : ◌≡◌ {A = ℕ} 0 1 = cc in absurd (omega arith)
+held_by : (s : List ℕ) (a : Stretch) (r : Option Summary) → summary_of s ≡ r → held_if r ≡ Some a → SummaryValid a.held
+held_by s a (Some v) f g = let e : ◌≡◌ {A = Stretch} (record { held = v }) a = cc in summary_valid s a.held (f ∙ ap (λ x. Some x.held) e)
+held_by s a None f g = let z : ◌≡◌ {A = ℕ} 0 1 = cc in absurd (omega arith)
 
-pub held_valid : (s : List ℕ) (a : Stretch) → stretch_of s ≡ StretchRead.Valid a → SummaryValid a.held
+pub held_valid : (s : List ℕ) (a : Stretch) → stretch_of s ≡ Some a → SummaryValid a.held
 held_valid s a e = held_by s a (summary_of s) refl (sym (stretch_held s) ∙ e)
 
 -- the rules are over the settings of the middle one

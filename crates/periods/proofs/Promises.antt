@@ -8,6 +8,7 @@ use mathlib.Core.List.{List, [], ◌∷◌, ◌++◌, map, map-append}
 use Prim.Native.Nat.{ℕ, suc, ◌+◌, ◌-◌, ◌≤◌}
 use native.Mathlib.Omega.{arith}
 use lib.ListN.{length, length-map}
+use Rattle.std.specs.Prelude.{Some}
 use Rattle.numbers.specs.Limits.{intervals}
 use Rattle.settings.specs.Settings.{label_meets}
 use Rattle.settings.specs.declared.LabelSettings.{LabelSettings}
@@ -32,13 +33,12 @@ use Rattle.summaries.proofs.Made.{made_reads_back}
 use Rattle.periods.specs.Between.{between, BetweenFits}
 use Rattle.periods.specs.Stretches.{held_if, stretch_of, first_of, after_of, label_of, made_stretch, made_bytes, counts_of, period_of, Known, stretch_held, first_held, after_held, label_held, made_held, bytes_held, period_held}
 use Rattle.periods.specs.declared.Stretch.{Stretch}
-use Rattle.periods.specs.declared.StretchRead.{StretchRead}
 use Rattle.periods.proofs.Fits.{known_three, loss_fits, composite_fits, all_valid}
 
 -- a made summary
 
 pub made_read :
-    (l : LabelSettings) (first : ℕ) (vs : List Interval) → label_meets l ≡ true → AllValid vs → first + length vs ≤ intervals → stretch_of (made_bytes l first vs) ≡ StretchRead.Valid (made_stretch l first vs)
+    (l : LabelSettings) (first : ℕ) (vs : List Interval) → label_meets l ≡ true → AllValid vs → first + length vs ≤ intervals → stretch_of (made_bytes l first vs) ≡ Some (made_stretch l first vs)
 made_read l first vs settings valid room =
     rw (stretch_held (made_bytes l first vs), bytes_held l first vs, made_held l first vs) (ap held_if (made_reads_back l first vs settings valid room))
 

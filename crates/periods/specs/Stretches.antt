@@ -1,5 +1,5 @@
 -- The meaning of summaries for what stands above them. The definitions are shut: what is known of them is what the laws of this crate say.
-use Rattle.std.specs.Prelude.{◌≡◌, refl, List, ℕ, ◌-◌}
+use Rattle.std.specs.Prelude.{◌≡◌, refl, List, ℕ, ◌-◌, Option, Some, None}
 use Rattle.settings.specs.declared.LabelSettings.{LabelSettings}
 use Rattle.intervals.specs.declared.Interval.{Interval}
 use Rattle.tallies.specs.declared.Period.{Period}
@@ -7,18 +7,17 @@ use Rattle.tallies.specs.declared.Counts.{Counts}
 use Rattle.tallies.specs.declared.Tally.{Tally}
 use Rattle.tracks.specs.Tracks.{count_in}
 use Rattle.summaries.specs.Stored.{summary_of, summary_bytes}
-use Rattle.summaries.specs.declared.SummaryRead.{SummaryRead}
 use Rattle.summaries.specs.Made.{made_of}
 use Rattle.periods.specs.Between.{between}
 use Rattle.periods.specs.declared.Stretch.{Stretch}
-use Rattle.periods.specs.declared.StretchRead.{StretchRead}
+use Rattle.summaries.specs.declared.Summary.{Summary}
 
-abbrev pub held_if : SummaryRead → StretchRead
-held_if (SummaryRead.Valid v) = StretchRead.Valid (record { held = v })
-held_if SummaryRead.Invalid = StretchRead.Invalid
+abbrev pub held_if : Option Summary → Option Stretch
+held_if (Some v) = Some (record { held = v })
+held_if None = None
 
 -- the summary that bytes are, if they meet every rule
-pub stretch_of : List ℕ → StretchRead
+pub stretch_of : List ℕ → Option Stretch
 stretch_of s = held_if (summary_of s)
 
 -- its first number, the number after its last, and its label settings
@@ -56,9 +55,9 @@ pub record ThreeRead (a b c : Stretch) : Type 0 where
   pub left_bytes : List ℕ
   pub middle_bytes : List ℕ
   pub right_bytes : List ℕ
-  pub left : stretch_of left_bytes ≡ StretchRead.Valid a
-  pub middle : stretch_of middle_bytes ≡ StretchRead.Valid b
-  pub right : stretch_of right_bytes ≡ StretchRead.Valid c
+  pub left : stretch_of left_bytes ≡ Some a
+  pub middle : stretch_of middle_bytes ≡ Some b
+  pub right : stretch_of right_bytes ≡ Some c
 
 -- of equal label settings, each right behind the one before
 pub record Known (a b c : Stretch) : Type 0 where

@@ -9,6 +9,7 @@ use native.Mathlib.Omega.{arith}
 use lib.ListN.{length, take, drop, length-append}
 use lib.Seq.{take_at, drop_at}
 use borrow.Author.Tests.{eq-eqb}
+use Rattle.std.specs.Prelude.{Option, Some, None, Ok}
 use Rattle.numbers.specs.Limits.{intervals}
 use Rattle.numbers.specs.Many.{record_at}
 use Rattle.numbers.proofs.Parts.{record_there}
@@ -19,13 +20,10 @@ use Rattle.intervals.specs.declared.Interval.{Interval}
 use Rattle.tallies.specs.Report.{Labelled}
 use Rattle.tallies.proofs.Valid.{AllValid}
 use Rattle.periods.specs.Stretches.{stretch_of, first_of, after_of, label_of, made_stretch, made_bytes}
-use Rattle.periods.specs.declared.StretchRead.{StretchRead}
 use Rattle.periods.proofs.Promises.{made_read, made_first, made_after, made_label, period_defined}
 use Rattle.periods.proofs.Sizes.{size_made}
 use Rattle.reports.specs.Circuits.{Circuit, three_bytes, defined}
 use Rattle.reports.specs.Three.{unless, suits, summary_at, three_at, report_of}
-use Rattle.reports.specs.declared.Reported.{Reported}
-use Rattle.reports.specs.declared.Wanted.{Wanted}
 use Rattle.reports.proofs.Judging.{adjoined, all_read}
 
 -- a circuit of valid intervals, no more than there are, with its labels
@@ -56,7 +54,7 @@ unfolding three_bytes
 size_three l x = simp (length-append, size_made)
 
 module _ (l : LabelSettings) (valid : label_meets l ≡ true) (x : Circuit) (sound : Sound l x) (front rest : List ℕ) (base : ℕ) (e : length front ≡ base * 1024) where
-  left_read : summary_at (front ++ (three_bytes l x ++ rest)) base ≡ StretchRead.Valid (made_stretch l 0 x.before)
+  left_read : summary_at (front ++ (three_bytes l x ++ rest)) base ≡ Some (made_stretch l 0 x.before)
   unfolding three_bytes
   left_read =
       let a : List ℕ = made_bytes l 0 x.before in
@@ -65,7 +63,7 @@ module _ (l : LabelSettings) (valid : label_meets l ≡ true) (x : Circuit) (sou
       ap stretch_of (record_at_lem _ front a ((b ++ c) ++ rest) base (simp append_assoc) e (size_made l 0 x.before))
       ∙ made_read l 0 x.before valid sound.before (omega (arith, sound.room))
 
-  middle_read : summary_at (front ++ (three_bytes l x ++ rest)) (base + 1) ≡ StretchRead.Valid (made_stretch l (length x.before) x.middle)
+  middle_read : summary_at (front ++ (three_bytes l x ++ rest)) (base + 1) ≡ Some (made_stretch l (length x.before) x.middle)
   unfolding three_bytes
   middle_read =
       let a : List ℕ = made_bytes l 0 x.before in
@@ -75,7 +73,7 @@ module _ (l : LabelSettings) (valid : label_meets l ≡ true) (x : Circuit) (sou
       (record_at_lem _ (front ++ a) b (c ++ rest) (base + 1) (simp append_assoc) (omega (arith, length-append front a, size_made l 0 x.before)) (size_made l (length x.before) x.middle))
       ∙ made_read l (length x.before) x.middle valid sound.middle (omega (arith, sound.room))
 
-  right_read : summary_at (front ++ (three_bytes l x ++ rest)) (base + 2) ≡ StretchRead.Valid (made_stretch l (length x.before + length x.middle) x.behind)
+  right_read : summary_at (front ++ (three_bytes l x ++ rest)) (base + 2) ≡ Some (made_stretch l (length x.before + length x.middle) x.behind)
   unfolding three_bytes
   right_read =
       let a : List ℕ = made_bytes l 0 x.before in
@@ -86,7 +84,7 @@ module _ (l : LabelSettings) (valid : label_meets l ≡ true) (x : Circuit) (sou
       (omega (arith, length-append (front ++ a) b, length-append front a, size_made l 0 x.before, size_made l (length x.before) x.middle)) (size_made l (length x.before + length x.middle) x.behind))
       ∙ made_read l (length x.before + length x.middle) x.behind valid sound.behind sound.room
 
-  pub three_defined : (w : Wanted) → suits w l ≡ true → three_at w (front ++ (three_bytes l x ++ rest)) base ≡ Reported.Answered (defined l x)
+  pub three_defined : (w : Option LabelSettings) → suits w l ≡ true → three_at w (front ++ (three_bytes l x ++ rest)) base ≡ Ok (defined l x)
   three_defined w suit =
       let i = length x.before in
       let j = length x.before + length x.middle in
@@ -96,11 +94,11 @@ module _ (l : LabelSettings) (valid : label_meets l ≡ true) (x : Circuit) (sou
       (eq-eqb (first_of (made_stretch l 0 x.before)) 0 (made_first l 0 x.before))
       (eq-eqb (after_of (made_stretch l 0 x.before)) (first_of (made_stretch l i x.middle)) (omega (arith, made_after l 0 x.before, made_first l i x.middle)))
       (eq-eqb (after_of (made_stretch l i x.middle)) (first_of (made_stretch l j x.behind)) (omega (arith, made_after l i x.middle, made_first l j x.behind)))
-      ∙ ap Reported.Answered (period_defined l (label_valid l valid).n_facts.0 x.before x.middle x.behind sound.middle x.loss x.composite sound.labelled)
+      ∙ ap Ok (period_defined l (label_valid l valid).n_facts.0 x.before x.middle x.behind sound.middle x.loss x.composite sound.labelled)
 
 -- The report on before, period and after is the definition's over the sequence so far.
-pub report_defined : (l : LabelSettings) → label_meets l ≡ true → (x : Circuit) → Sound l x → report_of (three_bytes l x) ≡ Reported.Answered (defined l x)
+pub report_defined : (l : LabelSettings) → label_meets l ≡ true → (x : Circuit) → Sound l x → report_of (three_bytes l x) ≡ Ok (defined l x)
 unfolding report_of unless
 report_defined l valid x sound =
     rw (eq-eqb (length (three_bytes l x)) 3072 (size_three l x))
-    (ap (λ s. three_at Wanted.Any s 0) (sym (append-nil (three_bytes l x))) ∙ three_defined l valid x sound [] [] 0 refl Wanted.Any refl)
+    (ap (λ s. three_at None s 0) (sym (append-nil (three_bytes l x))) ∙ three_defined l valid x sound [] [] 0 refl None refl)

@@ -9,6 +9,7 @@ use native.Mathlib.Omega.{arith}
 use lib.Dec.{eqb}
 use lib.ListN.{length}
 use borrow.Author.Tests.{eqb-true}
+use Rattle.std.specs.Prelude.{Option, Some, None, Result, Ok, Err}
 use Rattle.numbers.specs.Refusals.{refusal}
 use Rattle.numbers.specs.declared.refusal.Fault.{Fault}
 use Rattle.settings.specs.Settings.{same_label}
@@ -17,11 +18,10 @@ use Rattle.tallies.specs.Bounds.{PeriodBounded, Accounted}
 use Rattle.tallies.specs.declared.Period.{Period}
 use Rattle.periods.specs.Stretches.{stretch_of, first_of, after_of, label_of, period_of, ThreeRead, Known}
 use Rattle.periods.specs.declared.Stretch.{Stretch}
-use Rattle.periods.specs.declared.StretchRead.{StretchRead}
 use Rattle.periods.proofs.Promises.{period_bounded, period_accounted}
 use Rattle.reports.specs.Three.{unless, suits, judged_three, judged_reads, summary_at, three_at, report_of}
-use Rattle.reports.specs.declared.Reported.{Reported}
-use Rattle.reports.specs.declared.Wanted.{Wanted}
+use Rattle.numbers.specs.declared.refusal.Refusal.{Refusal}
+use Rattle.settings.specs.declared.LabelSettings.{LabelSettings}
 
 -- three that are read, of equal label settings, each right behind the one before
 pub known_by :
@@ -37,56 +37,56 @@ known_by a b c h p q e f =
 
 -- each way out
 
-module _ (w : Wanted) (base : ℕ) (a b c : Stretch) where
-  pub unsuited : suits w (label_of a) ≡ false → judged_three w base a b c ≡ Reported.Refused (refusal Fault.Mismatch base)
+module _ (w : Option LabelSettings) (base : ℕ) (a b c : Stretch) where
+  pub unsuited : suits w (label_of a) ≡ false → judged_three w base a b c ≡ Err (refusal Fault.Mismatch base)
   unfolding judged_three unless
   unsuited h = rw h
 
   module _ (suit : suits w (label_of a) ≡ true) where
-    pub unlike_middle : same_label (label_of a) (label_of b) ≡ false → judged_three w base a b c ≡ Reported.Refused (refusal Fault.Mismatch (base + 1))
+    pub unlike_middle : same_label (label_of a) (label_of b) ≡ false → judged_three w base a b c ≡ Err (refusal Fault.Mismatch (base + 1))
     unfolding judged_three unless
     unlike_middle h = rw (suit, h)
 
     module _ (left : same_label (label_of a) (label_of b) ≡ true) where
-      pub unlike_right : same_label (label_of b) (label_of c) ≡ false → judged_three w base a b c ≡ Reported.Refused (refusal Fault.Mismatch (base + 2))
+      pub unlike_right : same_label (label_of b) (label_of c) ≡ false → judged_three w base a b c ≡ Err (refusal Fault.Mismatch (base + 2))
       unfolding judged_three unless
       unlike_right h = rw (suit, left, h)
 
       module _ (right : same_label (label_of b) (label_of c) ≡ true) where
-        pub late : eqb (first_of a) 0 ≡ false → judged_three w base a b c ≡ Reported.Refused (refusal Fault.Order base)
+        pub late : eqb (first_of a) 0 ≡ false → judged_three w base a b c ≡ Err (refusal Fault.Order base)
         unfolding judged_three unless
         late h = rw (suit, left, right, h)
 
         module _ (start : eqb (first_of a) 0 ≡ true) where
-          pub apart_middle : eqb (after_of a) (first_of b) ≡ false → judged_three w base a b c ≡ Reported.Refused (refusal Fault.Order (base + 1))
+          pub apart_middle : eqb (after_of a) (first_of b) ≡ false → judged_three w base a b c ≡ Err (refusal Fault.Order (base + 1))
           unfolding judged_three unless
           apart_middle h = rw (suit, left, right, start, h)
 
           module _ (first : eqb (after_of a) (first_of b) ≡ true) where
-            pub apart_right : eqb (after_of b) (first_of c) ≡ false → judged_three w base a b c ≡ Reported.Refused (refusal Fault.Order (base + 2))
+            pub apart_right : eqb (after_of b) (first_of c) ≡ false → judged_three w base a b c ≡ Err (refusal Fault.Order (base + 2))
             unfolding judged_three unless
             apart_right h = rw (suit, left, right, start, first, h)
 
-            pub adjoined : eqb (after_of b) (first_of c) ≡ true → judged_three w base a b c ≡ Reported.Answered (period_of a b c)
+            pub adjoined : eqb (after_of b) (first_of c) ≡ true → judged_three w base a b c ≡ Ok (period_of a b c)
             unfolding judged_three unless
             adjoined h = rw (suit, left, right, start, first, h)
 
-module _ (w : Wanted) (s : List ℕ) (base : ℕ) where
-  pub bad_left : summary_at s base ≡ StretchRead.Invalid → three_at w s base ≡ Reported.Refused (refusal Fault.Field base)
+module _ (w : Option LabelSettings) (s : List ℕ) (base : ℕ) where
+  pub bad_left : summary_at s base ≡ None → three_at w s base ≡ Err (refusal Fault.Field base)
   unfolding three_at
   bad_left h = rw h
 
-  module _ (a : Stretch) (left : summary_at s base ≡ StretchRead.Valid a) where
-    pub bad_middle : summary_at s (base + 1) ≡ StretchRead.Invalid → three_at w s base ≡ Reported.Refused (refusal Fault.Field (base + 1))
+  module _ (a : Stretch) (left : summary_at s base ≡ Some a) where
+    pub bad_middle : summary_at s (base + 1) ≡ None → three_at w s base ≡ Err (refusal Fault.Field (base + 1))
     unfolding three_at
     bad_middle h = rw (left, h)
 
-    module _ (b : Stretch) (middle : summary_at s (base + 1) ≡ StretchRead.Valid b) where
-      pub bad_right : summary_at s (base + 2) ≡ StretchRead.Invalid → three_at w s base ≡ Reported.Refused (refusal Fault.Field (base + 2))
+    module _ (b : Stretch) (middle : summary_at s (base + 1) ≡ Some b) where
+      pub bad_right : summary_at s (base + 2) ≡ None → three_at w s base ≡ Err (refusal Fault.Field (base + 2))
       unfolding three_at
       bad_right h = rw (left, middle, h)
 
-      pub all_read : (c : Stretch) → summary_at s (base + 2) ≡ StretchRead.Valid c → three_at w s base ≡ judged_three w base a b c
+      pub all_read : (c : Stretch) → summary_at s (base + 2) ≡ Some c → three_at w s base ≡ judged_three w base a b c
       unfolding three_at
       all_read c h = rw (left, middle, h)
 
@@ -99,12 +99,12 @@ pub record Found (p : Period) : Type 0 where
   pub known : Known a b c
   pub told : period_of a b c ≡ p
 
-passed : (t : Bool) (f : Fault) (k : ℕ) (r : Reported) (p : Period) → unless t f k r ≡ Reported.Answered p → (t ≡ true) × (r ≡ Reported.Answered p)
+passed : (t : Bool) (f : Fault) (k : ℕ) (r : Result Period Refusal) (p : Period) → unless t f k r ≡ Ok p → (t ≡ true) × (r ≡ Ok p)
 unfolding unless
 passed true f k r p e = (refl, e)
 passed false f k r p e = let z : ◌≡◌ {A = ℕ} 0 1 = cc in absurd (omega arith)
 
-three_found : (w : Wanted) (base : ℕ) (a b c : Stretch) (p : Period) → ThreeRead a b c → judged_three w base a b c ≡ Reported.Answered p → Found p
+three_found : (w : Option LabelSettings) (base : ℕ) (a b c : Stretch) (p : Period) → ThreeRead a b c → judged_three w base a b c ≡ Ok p → Found p
 unfolding judged_three
 three_found w base a b c p h e =
     let s1 = passed _ _ _ _ p e in
@@ -116,14 +116,14 @@ three_found w base a b c p h e =
     record { a = a; b = b; c = c; known = known_by a b c h s2.0 s3.0 s5.0 s6.0; told = cc s6.1 }
 
 reads_found :
-    (w : Wanted) (base : ℕ) (s t u : List ℕ) (p : Period) (x y z : StretchRead) → stretch_of s ≡ x → stretch_of t ≡ y → stretch_of u ≡ z → judged_reads w base x y z ≡ Reported.Answered p → Found p
-reads_found w base s t u p StretchRead.Invalid y z f g h e = let z : ◌≡◌ {A = ℕ} 0 1 = cc in absurd (omega arith)
-reads_found w base s t u p (StretchRead.Valid a) StretchRead.Invalid z f g h e = let z : ◌≡◌ {A = ℕ} 0 1 = cc in absurd (omega arith)
-reads_found w base s t u p (StretchRead.Valid a) (StretchRead.Valid b) StretchRead.Invalid f g h e = let z : ◌≡◌ {A = ℕ} 0 1 = cc in absurd (omega arith)
-reads_found w base s t u p (StretchRead.Valid a) (StretchRead.Valid b) (StretchRead.Valid c) f g h e =
+    (w : Option LabelSettings) (base : ℕ) (s t u : List ℕ) (p : Period) (x y z : Option Stretch) → stretch_of s ≡ x → stretch_of t ≡ y → stretch_of u ≡ z → judged_reads w base x y z ≡ Ok p → Found p
+reads_found w base s t u p None y z f g h e = let z : ◌≡◌ {A = ℕ} 0 1 = cc in absurd (omega arith)
+reads_found w base s t u p (Some a) None z f g h e = let z : ◌≡◌ {A = ℕ} 0 1 = cc in absurd (omega arith)
+reads_found w base s t u p (Some a) (Some b) None f g h e = let z : ◌≡◌ {A = ℕ} 0 1 = cc in absurd (omega arith)
+reads_found w base s t u p (Some a) (Some b) (Some c) f g h e =
     three_found w base a b c p (record { left_bytes = s; middle_bytes = t; right_bytes = u; left = f; middle = g; right = h }) e
 
-pub answer_found : (w : Wanted) (s : List ℕ) (base : ℕ) (p : Period) → three_at w s base ≡ Reported.Answered p → Found p
+pub answer_found : (w : Option LabelSettings) (s : List ℕ) (base : ℕ) (p : Period) → three_at w s base ≡ Ok p → Found p
 unfolding three_at
 answer_found w s base p e = reads_found w base _ _ _ p _ _ _ refl refl refl e
 
@@ -132,12 +132,12 @@ pub found_bounded : (p : Period) (f : Found p) → PeriodBounded (label_of f.b).
 found_bounded p f = subst (λ r. PeriodBounded (label_of f.b).p r) f.told (period_bounded f.a f.b f.c f.known)
 
 -- Of whatever summaries `report` answers, made or only valid: its figures keep to the bounds, for the p of the summaries, and account for each interval of the period.
-pub report_sound : (s : List ℕ) (r : Period) → report_of s ≡ Reported.Answered r → (p : ℕ) × PeriodBounded p r × Accounted r
+pub report_sound : (s : List ℕ) (r : Period) → report_of s ≡ Ok r → (p : ℕ) × PeriodBounded p r × Accounted r
 unfolding report_of
 report_sound s r e =
-    let f = answer_found Wanted.Any s 0 r (passed (eqb (length s) 3072) Fault.Length 0 (three_at Wanted.Any s 0) r e).1 in
+    let f = answer_found None s 0 r (passed (eqb (length s) 3072) Fault.Length 0 (three_at None s 0) r e).1 in
     ((label_of f.b).p, found_bounded r f, subst Accounted f.told (period_accounted f.a f.b f.c f.known))
 
 -- two results that the contract allows are one
-pub report_coincide : (s : List ℕ) (x y : Reported) → x ≡ report_of s → y ≡ report_of s → x ≡ y
+pub report_coincide : (s : List ℕ) (x y : Result Period Refusal) → x ≡ report_of s → y ≡ report_of s → x ≡ y
 report_coincide s x y p q = cc

@@ -1,7 +1,6 @@
 pub mod Continuing
 pub mod Fractions
 pub mod Labelling
-pub mod Products
 pub mod Reaching
 pub mod Settling
 pub mod Windows

@@ -1,11 +1,10 @@
 -- What a running evaluator can hold of a track after a number of marks (`Possible`) is just what the test `reachable` lets through.
 -- One way each mark keeps the test. The other way a list is at hand: first the label as often as fits, then the pending marks against it.
-use mathlib.Core.Path.{◌≡◌, refl, sym, ap, ◌∙◌}
+use mathlib.Core.Path.{◌≡◌, refl, ap, ◌∙◌}
 use mathlib.Core.Bool.{Bool, true, false, not, cond, ◌&&◌, false≢true}
 use mathlib.Core.List.{List, [], ◌∷◌, ◌++◌}
 use Prim.Native.Nat.{ℕ, zero, suc, ◌+◌, ◌-◌, ◌≤◌, ◌<◌}
 use native.Mathlib.Omega.{arith}
-use native.Mathlib.Decide.{dec_le}
 use native.Mathlib.Nat.{add-zero, zero-add, add-suc, suc-add}
 use lib.Dec.{leb, ltb}
 use lib.ListN.{length, replicate, length-append, length-replicate, replicate-append-replicate}
@@ -140,11 +139,3 @@ reachable_possible n fed t p e = (
 
     lasts : List Bool
     lasts = replicate q (not l)
-
--- a sum that may be too large, tested by a difference
-pub leb_difference : (n q fed : ℕ) → n ≤ fed → leb q (fed - n) ≡ leb (n + q) fed
-leb_difference n q fed h =
-    elim (dec_le (n + q) fed) [
-      | yes p ↦ le-leb q (fed - n) (omega arith) ∙ sym (le-leb (n + q) fed p)
-      | no p ↦ lt-leb q (fed - n) (omega arith) ∙ sym (lt-leb (n + q) fed (omega arith))
-    ]

@@ -1,28 +1,14 @@
 -- Figures are a commutative monoid, on all values: sums add, and the rest joins by `max`.
 use mathlib.Core.Path.{◌≡◌}
-use Prim.Native.Nat.{ℕ, ◌+◌, max}
+use Prim.Native.Nat.{ℕ, max}
+use native.Mathlib.Nat.{add_assoc, add_comm, add-zero, max_comm, max-zero}
 use native.Mathlib.Omega.{arith}
 use Rattle.runs.specs.declared.figures.Load.{Load}
 use Rattle.runs.specs.declared.figures.Figures.{Figures}
 use Rattle.runs.specs.Figures.{idle, both, none, plus}
 
-add_assoc : (a b c : ℕ) → (a + b) + c ≡ a + (b + c)
-add_assoc a b c = omega arith
-
 max_assoc : (a b c : ℕ) → max (max a b) c ≡ max a (max b c)
 max_assoc a b c = omega arith
-
-add_comm : (a b : ℕ) → a + b ≡ b + a
-add_comm a b = omega arith
-
-max_comm : (a b : ℕ) → max a b ≡ max b a
-max_comm a b = omega arith
-
-add_zero : (a : ℕ) → a + 0 ≡ a
-add_zero a = omega arith
-
-max_zero : (a : ℕ) → max a 0 ≡ a
-max_zero a = omega arith
 
 pub both_assoc : (a b c : Load) → both (both a b) c ≡ both a (both b c)
 unfolding both
@@ -52,12 +38,12 @@ pub both_idle : (a : Load) → both a idle ≡ a
 unfolding both idle
 both_idle a = λ i.
     record {
-      count = add_zero a.count i;
-      sent = add_zero a.sent i;
-      lost = add_zero a.lost i;
-      sum = add_zero a.sum i;
-      most = max_zero a.most i;
-      headroom = max_zero a.headroom i;
+      count = add-zero a.count i;
+      sent = add-zero a.sent i;
+      lost = add-zero a.lost i;
+      sum = add-zero a.sum i;
+      most = max-zero a.most i;
+      headroom = max-zero a.headroom i;
     }
 
 pub idle_both : (a : Load) → both idle a ≡ a
@@ -79,7 +65,7 @@ plus_comm a b = λ i.
 
 pub plus_none : (a : Figures) → plus a none ≡ a
 unfolding plus none
-plus_none a = λ i. record { load = both_idle a.load i; high = add_zero a.high i; runs = add_zero a.runs i }
+plus_none a = λ i. record { load = both_idle a.load i; high = add-zero a.high i; runs = add-zero a.runs i }
 
 pub none_plus : (a : Figures) → plus none a ≡ a
 none_plus a = rw (plus_comm, plus_none)

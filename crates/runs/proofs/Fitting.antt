@@ -1,6 +1,6 @@
 -- The rules keep every sum in its field: what the operations ask of their operands follows from the rules, where both together are no more
 -- intervals than there are.
-use mathlib.Core.Path.{◌≡◌, refl, ap}
+use mathlib.Core.Path.{refl}
 use mathlib.Core.Bool.{Bool, true, false}
 use Prim.Native.Nat.{ℕ, zero, suc, ◌+◌, ◌*◌, ◌≤◌, ◌<◌}
 use native.Mathlib.Omega.{arith}
@@ -16,14 +16,6 @@ use Rattle.runs.specs.Figures.{both, plus}
 use Rattle.runs.specs.Runs.{figures_of}
 use Rattle.runs.specs.Valid.{LoadValid, FiguresValid, EdgesValid, EdgesFor, RunValid, MiddleFits, LoadsFit, FiguresFit, span_of, RunsFit, MiddlesFit, ShutFits}
 use Rattle.runs.proofs.Keeping.{plus_valid, figures_valid}
-
-pub span_solid : (e : Edges) (k : ℕ) → e ≡ Solid k → span_of e ≡ k
-unfolding span_of
-span_solid e k q = ap span_of q
-
-pub span_split : (e : Edges) (x y z : ℕ) → e ≡ Split x y z → span_of e ≡ x + y + z
-unfolding span_of
-span_split e x y z q = ap span_of q
 
 -- a sum of delays is at most the largest delay for each frame
 pub sum_bound : (l : Load) → LoadValid l → l.sum ≤ largest_delay * (frames * l.count)

@@ -7,11 +7,11 @@ use mathlib.Core.List.{List, [], ◌∷◌, ◌++◌, map, append_assoc, append-
 use Prim.Native.Nat.{ℕ, suc, ◌*◌, ◌≤◌}
 use native.Mathlib.Omega.{arith}
 use lib.ListN.{length, length-append}
+use Rattle.std.specs.Prelude.{Some, Ok}
 use Rattle.numbers.specs.Limits.{pairs}
 use Rattle.settings.specs.Settings.{label_meets, settings_of}
 use Rattle.settings.specs.declared.LabelSettings.{LabelSettings}
 use Rattle.settings.specs.declared.Settings.{Settings}
-use Rattle.settings.specs.declared.SettingsRead.{SettingsRead}
 use Rattle.settings.proofs.SettingsRecord.{label_valid, same_label_self}
 use Rattle.labels.proofs.Placing.{read_label}
 use Rattle.verdicts.specs.Verdicts.{verdicts_of}
@@ -19,10 +19,8 @@ use Rattle.verdicts.specs.Sets.{of_sets}
 use Rattle.verdicts.specs.declared.Verdicts.{Verdicts}
 use Rattle.verdicts.proofs.Taken.{verdicts_taken}
 use Rattle.reports.specs.Circuits.{Circuit, three_bytes, set_bytes, defined}
-use Rattle.reports.specs.declared.Wanted.{Wanted}
 use Rattle.reports.proofs.Defined.{Sound, size_three, three_defined}
 use Rattle.sets.specs.Sets.{pairs_from, set_from, judged_of, defined_verdicts}
-use Rattle.sets.specs.declared.Judged.{Judged}
 use Rattle.sets.proofs.Going.{gone_over}
 
 unfoldable pub AllSound : LabelSettings → List Circuit → Type 0
@@ -31,14 +29,14 @@ AllSound l (x ∷ xs) = Sound l x × AllSound l xs
 
 set_by :
     (v : Settings) → label_meets v.label ≡ true → (xs : List Circuit) → AllSound v.label xs → (front : List ℕ) (k : ℕ) → length front ≡ k * 3072 → (passed : List Verdicts) →
-    set_from v passed (pairs_from (length xs) v.label (front ++ set_bytes v.label xs) k) ≡ Judged.Answered (of_sets (passed ++ map (λ x. verdicts_of v (defined v.label x)) xs))
+    set_from v passed (pairs_from (length xs) v.label (front ++ set_bytes v.label xs) k) ≡ Ok (of_sets (passed ++ map (λ x. verdicts_of v (defined v.label x)) xs))
 unfolding set_from pairs_from set_bytes AllSound
-set_by v valid [] sound front k e passed = ap (λ l. Judged.Answered (of_sets l)) (sym (append-nil passed))
+set_by v valid [] sound front k e passed = ap (λ l. Ok (of_sets l)) (sym (append-nil passed))
 set_by v valid (x ∷ xs) sound front k e passed =
     let l = v.label in
-    rw (three_defined l valid x sound.0 front (set_bytes l xs) (3 * k) (omega arith) (Wanted.These l) (same_label_self l), ← append_assoc front (three_bytes l x) (set_bytes l xs))
+    rw (three_defined l valid x sound.0 front (set_bytes l xs) (3 * k) (omega arith) (Some l) (same_label_self l), ← append_assoc front (three_bytes l x) (set_bytes l xs))
     (set_by v valid xs sound.1 (front ++ three_bytes l x) (suc k) (omega (arith, length-append front (three_bytes l x), size_three l x)) (passed ++ (verdicts_of v (defined l x) ∷ []))
-    ∙ ap (λ l. Judged.Answered (of_sets l)) (append_assoc passed (verdicts_of v (defined l x) ∷ []) (map (λ x. verdicts_of v (defined v.label x)) xs)))
+    ∙ ap (λ l. Ok (of_sets l)) (append_assoc passed (verdicts_of v (defined l x) ∷ []) (map (λ x. verdicts_of v (defined v.label x)) xs)))
 
 -- by labels
 all_taken :
@@ -57,9 +55,9 @@ size_set l [] = refl
 size_set l (x ∷ xs) = omega (arith, length-append (three_bytes l x) (set_bytes l xs), size_three l x, size_set l xs)
 
 pub verdicts_defined :
-    (settings : List ℕ) (v : Settings) → settings_of settings ≡ SettingsRead.Valid v → (xs : List Circuit) → AllSound v.label xs → 1 ≤ length xs → length xs ≤ pairs →
-    judged_of settings (length xs) (set_bytes v.label xs) ≡ Judged.Answered (of_sets (map (defined_verdicts v) xs))
+    (settings : List ℕ) (v : Settings) → settings_of settings ≡ Some v → (xs : List Circuit) → AllSound v.label xs → 1 ≤ length xs → length xs ≤ pairs →
+    judged_of settings (length xs) (set_bytes v.label xs) ≡ Ok (of_sets (map (defined_verdicts v) xs))
 verdicts_defined settings v read xs sound some few =
     gone_over settings (length xs) (set_bytes v.label xs) v read some few (size_set v.label xs)
     ∙ set_by v (read_label settings v read) xs sound [] 0 refl []
-    ∙ ap (λ l. Judged.Answered (of_sets l)) (all_taken v (read_label settings v read) xs sound)
+    ∙ ap (λ l. Ok (of_sets l)) (all_taken v (read_label settings v read) xs sound)

@@ -6,6 +6,7 @@ use Prim.Native.Nat.{ℕ, suc, ◌+◌, ◌*◌, ◌-◌, ◌≤◌, ◌<◌}
 use native.Mathlib.Omega.{arith}
 use lib.ListN.{length}
 use borrow.Author.Tests.{le-leb, lt-leb, eq-eqb, ne_eqb}
+use Rattle.std.specs.Prelude.{Some, None, Result, Ok, Err}
 use Rattle.numbers.specs.Limits.{pairs}
 use Rattle.numbers.specs.Refusals.{refusal}
 use Rattle.numbers.specs.declared.refusal.Fault.{Fault}
@@ -13,21 +14,17 @@ use Rattle.numbers.specs.declared.refusal.Refusal.{Refusal}
 use Rattle.settings.specs.Settings.{settings_of}
 use Rattle.settings.specs.declared.LabelSettings.{LabelSettings}
 use Rattle.settings.specs.declared.Settings.{Settings}
-use Rattle.settings.specs.declared.SettingsRead.{SettingsRead}
 use Rattle.tallies.specs.declared.Period.{Period}
 use Rattle.verdicts.specs.Verdicts.{verdicts_of}
 use Rattle.verdicts.specs.Sets.{of_sets}
 use Rattle.verdicts.specs.declared.Verdicts.{Verdicts}
 use Rattle.verdicts.proofs.Gathering.{sets_more}
 use Rattle.reports.specs.Three.{three_at}
-use Rattle.reports.specs.declared.Reported.{Reported}
-use Rattle.reports.specs.declared.Wanted.{Wanted}
 use Rattle.sets.specs.Sets.{pairs_from, set_from, unless, judged_of}
-use Rattle.sets.specs.declared.Judged.{Judged}
 
 -- what is left at k of n
 
-pairs_next : (n k : ℕ) (l : LabelSettings) (s : List ℕ) → k < n → pairs_from (n - k) l s k ≡ three_at (Wanted.These l) s (3 * k) ∷ pairs_from (n - (k + 1)) l s (k + 1)
+pairs_next : (n k : ℕ) (l : LabelSettings) (s : List ℕ) → k < n → pairs_from (n - k) l s k ≡ three_at (Some l) s (3 * k) ∷ pairs_from (n - (k + 1)) l s (k + 1)
 unfolding pairs_from
 pairs_next n k l s h =
     let e : n - k ≡ suc (n - (k + 1)) = omega arith in
@@ -52,12 +49,12 @@ module _ (v : Settings) (s : List ℕ) (n : ℕ) where
       record { passed = []; kept = e; most = omega arith; left = rw f refl }
 
   module _ (k : ℕ) (all : Verdicts) (g : Going k all) where
-    pub going_refused : (r : Refusal) → k < n → three_at (Wanted.These v.label) s (3 * k) ≡ Reported.Refused r → set_from v [] (pairs_from n v.label s 0) ≡ Judged.Refused r
+    pub going_refused : (r : Refusal) → k < n → three_at (Some v.label) s (3 * k) ≡ Err r → set_from v [] (pairs_from n v.label s 0) ≡ Err r
     unfolding set_from
     going_refused r h e = g.left ∙ rw (pairs_next n k v.label s h, e)
 
     pub going_next :
-        (p : Period) (more : Verdicts) → k < n → three_at (Wanted.These v.label) s (3 * k) ≡ Reported.Answered p → more ≡ of_sets (all ∷ verdicts_of v p ∷ []) → Going (k + 1) more
+        (p : Period) (more : Verdicts) → k < n → three_at (Some v.label) s (3 * k) ≡ Ok p → more ≡ of_sets (all ∷ verdicts_of v p ∷ []) → Going (k + 1) more
     unfolding set_from
     going_next p more h e f =
         record {
@@ -67,28 +64,28 @@ module _ (v : Settings) (s : List ℕ) (n : ℕ) where
           left = g.left ∙ rw (pairs_next n k v.label s h, e);
         }
 
-    pub going_done : n ≤ k → set_from v [] (pairs_from n v.label s 0) ≡ Judged.Answered all
+    pub going_done : n ≤ k → set_from v [] (pairs_from n v.label s 0) ≡ Ok all
     unfolding set_from
     going_done h = g.left ∙ rw (pairs_done n k v.label s h, g.kept)
 
 -- what the operation says where each test has been made: one law for each way out
 
 module _ (settings : List ℕ) (n : ℕ) (s : List ℕ) where
-  pub no_settings : settings_of settings ≡ SettingsRead.Invalid → judged_of settings n s ≡ Judged.Refused (refusal Fault.Settings 0)
+  pub no_settings : settings_of settings ≡ None → judged_of settings n s ≡ Err (refusal Fault.Settings 0)
   unfolding judged_of
   no_settings h = rw h
 
-  module _ (v : Settings) (valid : settings_of settings ≡ SettingsRead.Valid v) where
-    pub no_pairs : n < 1 → judged_of settings n s ≡ Judged.Refused (refusal Fault.Pairs 0)
+  module _ (v : Settings) (valid : settings_of settings ≡ Some v) where
+    pub no_pairs : n < 1 → judged_of settings n s ≡ Err (refusal Fault.Pairs 0)
     unfolding judged_of unless
     no_pairs h = rw (valid, lt-leb 1 n h)
 
-    pub many_pairs : pairs < n → judged_of settings n s ≡ Judged.Refused (refusal Fault.Pairs 0)
+    pub many_pairs : pairs < n → judged_of settings n s ≡ Err (refusal Fault.Pairs 0)
     unfolding judged_of unless pairs
     many_pairs h = rw (valid, le-leb 1 n (omega arith), lt-leb n pairs h)
 
     module _ (some : 1 ≤ n) (few : n ≤ pairs) where
-      pub no_length : (length s ≡ n * 3072 → ⊥) → judged_of settings n s ≡ Judged.Refused (refusal Fault.Length 0)
+      pub no_length : (length s ≡ n * 3072 → ⊥) → judged_of settings n s ≡ Err (refusal Fault.Length 0)
       unfolding judged_of unless
       no_length h = rw (valid, le-leb 1 n some, le-leb n pairs few, ne_eqb (length s) (n * 3072) h)
 
@@ -97,5 +94,5 @@ module _ (settings : List ℕ) (n : ℕ) (s : List ℕ) where
       gone_over h = rw (valid, le-leb 1 n some, le-leb n pairs few, eq-eqb (length s) (n * 3072) h)
 
 -- two results that the contract allows are one
-pub verdicts_coincide : (settings : List ℕ) (n : ℕ) (s : List ℕ) (x y : Judged) → x ≡ judged_of settings n s → y ≡ judged_of settings n s → x ≡ y
+pub verdicts_coincide : (settings : List ℕ) (n : ℕ) (s : List ℕ) (x y : Result Verdicts Refusal) → x ≡ judged_of settings n s → y ≡ judged_of settings n s → x ≡ y
 verdicts_coincide settings n s x y p q = cc

@@ -10,13 +10,13 @@ use native.Mathlib.Omega.{arith}
 use lib.ListN.{get_or}
 use lib.Dec.{leb, ltb, eqb}
 use borrow.Author.Tests.{leb-true, eqb-true, eq-eqb}
+use Rattle.std.specs.Prelude.{Some}
 use Rattle.numbers.specs.Limits.{largest_delay, million}
 use Rattle.numbers.specs.Rules.{all_met}
 use Rattle.numbers.proofs.Rules.{rule_met, within_facts, below_facts}
 use Rattle.settings.specs.Settings.{label_in, label_rules, label_meets, objectives_in, objective_rules, objectives_meet, settings_rules, settings_of, same_fields, same_label, valid_if}
 use Rattle.settings.specs.declared.LabelSettings.{LabelSettings}
 use Rattle.settings.specs.declared.Settings.{Settings}
-use Rattle.settings.specs.declared.SettingsRead.{SettingsRead}
 
 pub record LabelValid (l : LabelSettings) : Type 0 where
   pub length_facts : (100 ≤ l.length) × (l.length ≤ 60000)
@@ -78,15 +78,15 @@ objectives_valid v l e =
 
 -- settings that are read are what stands in the bytes, and the bytes meet every rule
 
-taken_out : (t : Bool) (w v : Settings) → valid_if t w ≡ SettingsRead.Valid v → (t ≡ true) × (w ≡ v)
+taken_out : (t : Bool) (w v : Settings) → valid_if t w ≡ Some v → (t ≡ true) × (w ≡ v)
 taken_out true w v e = (refl, (cc))
 taken_out false w v e = let z : ◌≡◌ {A = ℕ} 0 1 = cc in absurd (omega arith)
 
-pub settings_read : (s : List ℕ) (v : Settings) → settings_of s ≡ SettingsRead.Valid v → (all_met (settings_rules s) ≡ true) × (objectives_in (label_in s) s ≡ v)
+pub settings_read : (s : List ℕ) (v : Settings) → settings_of s ≡ Some v → (all_met (settings_rules s) ≡ true) × (objectives_in (label_in s) s ≡ v)
 unfolding settings_of
 settings_read s v e = taken_out (all_met (settings_rules s)) (objectives_in (label_in s) s) v e
 
-pub settings_valid : (s : List ℕ) (v : Settings) → settings_of s ≡ SettingsRead.Valid v → SettingsValid v
+pub settings_valid : (s : List ℕ) (v : Settings) → settings_of s ≡ Some v → SettingsValid v
 unfolding settings_rules objectives_in
 settings_valid s v e =
     let r = settings_read s v e in

@@ -1,11 +1,10 @@
 -- The settings record of document 01, 64 bytes.
-use Rattle.std.specs.Prelude.{ℕ, Bool, true, false, ◌&&◌, ◌||◌, not, List, [], ◌∷◌, ◌++◌, length, get_or, leb, ltb, eqb}
+use Rattle.std.specs.Prelude.{ℕ, Bool, true, false, ◌&&◌, ◌||◌, not, List, [], ◌∷◌, ◌++◌, length, get_or, leb, ltb, eqb, Option, Some, None}
 use Rattle.numbers.specs.Bytes.{number_at, bytes_of}
 use Rattle.numbers.specs.Limits.{largest_delay, million}
 use Rattle.numbers.specs.Rules.{all_met, within}
 use Rattle.settings.specs.declared.LabelSettings.{LabelSettings}
 use Rattle.settings.specs.declared.Settings.{Settings}
-use Rattle.settings.specs.declared.SettingsRead.{SettingsRead}
 
 -- where each value stands
 
@@ -79,12 +78,12 @@ settings_rules s =
     ∷ eqb (number_at 4 s 60) 0
     ∷ []
 
-abbrev pub valid_if : Bool → Settings → SettingsRead
-valid_if true v = SettingsRead.Valid v
-valid_if false v = SettingsRead.Invalid
+abbrev pub valid_if : Bool → Settings → Option Settings
+valid_if true v = Some v
+valid_if false v = None
 
 -- what the bytes say, if they meet every rule
-unfoldable pub settings_of : List ℕ → SettingsRead
+unfoldable pub settings_of : List ℕ → Option Settings
 settings_of s = valid_if (all_met (settings_rules s)) (objectives_in (label_in s) s)
 
 -- two label settings are the same

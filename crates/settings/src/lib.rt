@@ -3,12 +3,12 @@
 
 ghost use Rattle.std.specs.Prelude.{◌≡◌};
 ghost use Rattle.std.proofs.lemmas.List.Edits.{sets};
-ghost use Rattle.settings.specs.Settings.{label_in, label_meets, objectives_in, objectives_meet, settings_of, same_label, shape_bytes, threshold_bytes, label_bytes};
+ghost use Rattle.settings.specs.Settings.{label_in, label_meets, objectives_in, objectives_meet, settings_of, shape_bytes, threshold_bytes, label_bytes};
 
 use numbers::{bytes, limits};
 
 // What labels depend on.
-#[derive(Clone, Copy)]
+#[derive(Clone, Copy, PartialEq, Eq)]
 pub struct LabelSettings {
     // interval length in ms
     pub length: u32,
@@ -41,12 +41,6 @@ pub struct Settings {
     // most delay and most range, in ns
     pub delay: u32,
     pub range: u32,
-}
-
-#[derive(Clone, Copy)]
-pub enum SettingsRead {
-    Valid(Settings),
-    Invalid,
 }
 
 // The label settings that stand at the start of `s`.
@@ -112,11 +106,11 @@ fn objectives_meet(v: Settings) -> bool
 }
 
 // The settings in `s`, if it is 64 bytes and every field and spare byte meets its rule.
-pub fn read(s: &[u8]) -> SettingsRead
+pub fn read(s: &[u8]) -> Option<Settings>
     ensures { result ≡ settings_of s.now }
 {
     if s.len() != 64 {
-        return SettingsRead::Invalid;
+        return None;
     }
     let l = label_in(s);
     let v = objectives_in(l, s);
@@ -125,24 +119,10 @@ pub fn read(s: &[u8]) -> SettingsRead
         & (bytes::get_u8(s, 7) == 0)
         & (bytes::get_u32(s, 60) == 0)
     {
-        SettingsRead::Valid(v)
+        Some(v)
     } else {
-        SettingsRead::Invalid
+        None
     }
-}
-
-// Whether two label settings are the same.
-pub fn same_label(a: LabelSettings, b: LabelSettings) -> bool
-    ensures { result ≡ same_label a b }
-{
-    (a.length == b.length)
-        & (a.n == b.n)
-        & (a.p == b.p)
-        & (a.weights == b.weights)
-        & (a.c == b.c)
-        & (a.u == b.u)
-        & (a.dl == b.dl)
-        & (a.jt == b.jt)
 }
 
 // What stands before C put at the start of `part`.

@@ -6,6 +6,7 @@ use mathlib.Core.List.{List, [], ◌∷◌, map}
 use Prim.Native.Nat.{ℕ, suc, ◌+◌, ◌-◌, ◌≤◌}
 use native.Mathlib.Omega.{arith}
 use lib.ListN.{length, length-map}
+use Rattle.std.specs.Prelude.{Some}
 use Rattle.numbers.specs.Limits.{intervals}
 use Rattle.settings.specs.Settings.{label_meets}
 use Rattle.settings.specs.declared.LabelSettings.{LabelSettings}
@@ -18,7 +19,6 @@ use Rattle.tallies.specs.Tally.{serving}
 use Rattle.tracks.proofs.Keeping.{made_valid}
 use Rattle.tracks.proofs.Serving.{count_summary}
 use Rattle.summaries.specs.Stored.{summary_of, summary_bytes}
-use Rattle.summaries.specs.declared.SummaryRead.{SummaryRead}
 use Rattle.summaries.proofs.RoundTrip.{read_write}
 use Rattle.summaries.proofs.Validity.{SummaryValid}
 use Rattle.summaries.specs.Made.{made_of}
@@ -49,5 +49,5 @@ made_summary_valid l first vs settings valid room =
 
 pub made_reads_back :
     (l : LabelSettings) (first : ℕ) (vs : List Interval) →
-    label_meets l ≡ true → AllValid vs → first + length vs ≤ intervals → summary_of (summary_bytes (made_of l first vs)) ≡ SummaryRead.Valid (made_of l first vs)
+    label_meets l ≡ true → AllValid vs → first + length vs ≤ intervals → summary_of (summary_bytes (made_of l first vs)) ≡ Some (made_of l first vs)
 made_reads_back l first vs settings valid room = read_write (made_of l first vs) (made_summary_valid l first vs settings valid room)

@@ -10,6 +10,7 @@ use native.Mathlib.Omega.{arith}
 use lib.ListN.{length, get_or, take, drop, length-append}
 use lib.Seq.{drop-cons}
 use borrow.Author.Tests.{le-leb, eq-eqb, eqb-true}
+use Rattle.std.specs.Prelude.{Some}
 use Rattle.numbers.specs.Bytes.{number_at, part, bytes_of, are_zero, Bytes}
 use Rattle.numbers.specs.Limits.{intervals}
 use Rattle.numbers.specs.Rules.{all_met}
@@ -30,7 +31,6 @@ use Rattle.layout.proofs.WriteRead.{track_write_read}
 use Rattle.layout.proofs.Sizes.{size_track}
 use Rattle.summaries.specs.Stored.{summary_in, header_rules, header_meets, track_rules, tracks_meet, summary_rules, summary_of, summary_bytes}
 use Rattle.summaries.specs.declared.Summary.{Summary}
-use Rattle.summaries.specs.declared.SummaryRead.{SummaryRead}
 use Rattle.summaries.proofs.InField.{track_in_field}
 use Rattle.summaries.proofs.Validity.{SummaryValid, taken_out}
 
@@ -164,7 +164,7 @@ module _ (v : Summary) (h : SummaryValid v) where
   tracks_meet_lem =
       rw (track_meets_lem v.label.n v.label.p (v.after - v.first) v.loss h.loss short, track_meets_lem v.label.n v.label.p (v.after - v.first) v.composite h.composite short, eq-eqb (count_in v.loss) (count_in v.composite) h.counts)
 
-  pub read_write : summary_of (summary_bytes v) ≡ SummaryRead.Valid v
+  pub read_write : summary_of (summary_bytes v) ≡ Some v
   unfolding summary_of summary_rules
   read_write = rw (eq-eqb (length (summary_bytes v)) 1024 (length_summary v), written_values, written_header, tracks_meet_lem)
 
@@ -200,11 +200,11 @@ module _ (s : List ℕ) (h : Bytes s) where
       rw (part_bytes 4 s 0 h, part_bytes 4 s 4 h, label_back whole spare, track_write_read s h 32 loss, track_write_read s h 248 composite, zero_bytes 560 s 464 zeros)
       (sym (in_pieces s) ∙ part_whole s 1024 whole)
 
-pub read_whole : (s : List ℕ) (v : Summary) → summary_of s ≡ SummaryRead.Valid v → length s ≡ 1024
+pub read_whole : (s : List ℕ) (v : Summary) → summary_of s ≡ Some v → length s ≡ 1024
 unfolding summary_of summary_rules
 read_whole s v e = eqb-true (length s) 1024 (rule_met (summary_rules s) 0 (taken_out (all_met (summary_rules s)) (summary_in s) v e).0)
 
-pub write_read : (s : List ℕ) (v : Summary) → Bytes s → summary_of s ≡ SummaryRead.Valid v → summary_bytes v ≡ s
+pub write_read : (s : List ℕ) (v : Summary) → Bytes s → summary_of s ≡ Some v → summary_bytes v ≡ s
 unfolding summary_of summary_rules header_meets header_rules
 write_read s v h e =
     let r = taken_out (all_met (summary_rules s)) (summary_in s) v e in

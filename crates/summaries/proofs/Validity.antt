@@ -6,6 +6,7 @@ use mathlib.Core.List.{List}
 use Prim.Native.Nat.{ℕ, ◌-◌, ◌≤◌}
 use native.Mathlib.Omega.{arith}
 use borrow.Author.Tests.{leb-true, eqb-true}
+use Rattle.std.specs.Prelude.{Some}
 use Rattle.numbers.specs.Limits.{intervals}
 use Rattle.numbers.specs.Rules.{all_met}
 use Rattle.numbers.proofs.Rules.{rule_met}
@@ -15,7 +16,6 @@ use Rattle.tracks.specs.Tracks.{count_in}
 use Rattle.tracks.specs.Valid.{TrackValid}
 use Rattle.summaries.specs.Stored.{summary_in, header_rules, header_meets, track_rules, tracks_meet, summary_rules, summary_of, valid_if}
 use Rattle.summaries.specs.declared.Summary.{Summary}
-use Rattle.summaries.specs.declared.SummaryRead.{SummaryRead}
 
 pub record SummaryValid (v : Summary) : Type 0 where
   pub ordered : v.first ≤ v.after
@@ -38,11 +38,11 @@ facts s v h t =
     }
 
 -- what is read is what stands in the bytes, and they meet every rule
-pub taken_out : (t : Bool) (w v : Summary) → valid_if t w ≡ SummaryRead.Valid v → (t ≡ true) × (w ≡ v)
+pub taken_out : (t : Bool) (w v : Summary) → valid_if t w ≡ Some v → (t ≡ true) × (w ≡ v)
 taken_out true w v e = (refl, (cc))
 taken_out false w v e = let z : ◌≡◌ {A = ℕ} 0 1 = cc in absurd (omega arith)
 
-pub summary_valid : (s : List ℕ) (v : Summary) → summary_of s ≡ SummaryRead.Valid v → SummaryValid v
+pub summary_valid : (s : List ℕ) (v : Summary) → summary_of s ≡ Some v → SummaryValid v
 unfolding summary_of summary_rules
 summary_valid s v e =
     let r = taken_out (all_met (summary_rules s)) (summary_in s) v e in

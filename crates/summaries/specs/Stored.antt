@@ -1,5 +1,5 @@
 -- The summary record, 1,024 bytes: the stretch's numbers, the label settings, the loss track, the composite track, and spare bytes.
-use Rattle.std.specs.Prelude.{ℕ, ◌-◌, Bool, true, false, List, [], ◌∷◌, ◌++◌, length, get_or, take, drop, leb, eqb}
+use Rattle.std.specs.Prelude.{ℕ, ◌-◌, Bool, true, false, List, [], ◌∷◌, ◌++◌, length, get_or, take, drop, leb, eqb, Option, Some, None}
 use Rattle.numbers.specs.Bytes.{number_at, are_zero, bytes_of}
 use Rattle.numbers.specs.Limits.{intervals}
 use Rattle.numbers.specs.Rules.{all_met}
@@ -9,7 +9,6 @@ use Rattle.layout.specs.Reading.{track_in, words_meet}
 use Rattle.track_rules.specs.Meets.{track_meets}
 use Rattle.tracks.specs.Tracks.{count_in}
 use Rattle.summaries.specs.declared.Summary.{Summary}
-use Rattle.summaries.specs.declared.SummaryRead.{SummaryRead}
 
 -- where each value stands
 unfoldable pub summary_in : List ℕ → Summary
@@ -51,12 +50,12 @@ tracks_meet v = all_met (track_rules v)
 unfoldable pub summary_rules : List ℕ → List Bool
 summary_rules s = eqb (length s) 1024 ∷ header_meets s (summary_in s) ∷ tracks_meet (summary_in s) ∷ []
 
-abbrev pub valid_if : Bool → Summary → SummaryRead
-valid_if true v = SummaryRead.Valid v
-valid_if false v = SummaryRead.Invalid
+abbrev pub valid_if : Bool → Summary → Option Summary
+valid_if true v = Some v
+valid_if false v = None
 
 -- what the bytes say, if they meet every rule
-unfoldable pub summary_of : List ℕ → SummaryRead
+unfoldable pub summary_of : List ℕ → Option Summary
 summary_of s = valid_if (all_met (summary_rules s)) (summary_in s)
 
 -- the 1,024 bytes of the values

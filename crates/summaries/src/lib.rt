@@ -6,7 +6,7 @@ ghost use Rattle.summaries.specs.Stored.{summary_in, header_meets, tracks_meet, 
 
 use layout::{reading, writing};
 use numbers::{known, limits};
-use runs::figures;
+use runs::run::Lengths;
 use settings::LabelSettings;
 use tracks::Track;
 
@@ -18,12 +18,6 @@ pub struct Summary {
     pub label: LabelSettings,
     pub loss: Track,
     pub composite: Track,
-}
-
-#[derive(Clone, Copy)]
-pub enum SummaryRead {
-    Valid(Summary),
-    Invalid,
 }
 
 // The values that stand in 1,024 bytes.
@@ -45,10 +39,9 @@ fn header_meets(s: &[u8], v: Summary) -> bool
     requires { length s.now ≡ 1024 }
     ensures { result ≡ header_meets s.now v }
 {
-    let l = v.label;
     (v.first <= v.after)
         & (v.after <= limits::INTERVALS)
-        & settings::label_meets(l)
+        & settings::label_meets(v.label)
         & (s[15] == 0)
         & reading::words_meet(s, 32)
         & reading::words_meet(s, 248)
@@ -59,30 +52,31 @@ fn header_meets(s: &[u8], v: Summary) -> bool
 fn tracks_meet(v: Summary) -> bool
     ensures { result ≡ tracks_meet v }
 {
-    let l = v.label;
-    let loss = v.loss;
-    let composite = v.composite;
-    let len = figures::monus(v.after, v.first);
-    if track_rules::track_meets(l.n as u32, l.p as u32, len, loss) {
-        if track_rules::track_meets(l.n as u32, l.p as u32, len, composite) {
-            return tracks::count_in(loss) == tracks::count_in(composite);
+    let by = Lengths {
+        n: v.label.n as u32,
+        p: v.label.p as u32,
+    };
+    let len = v.after.saturating_sub(v.first);
+    if track_rules::track_meets(by, len, v.loss) {
+        if track_rules::track_meets(by, len, v.composite) {
+            return tracks::count_in(v.loss) == tracks::count_in(v.composite);
         }
     }
     false
 }
 
 // The summary in `s`, if it is 1,024 bytes and meets every rule.
-pub fn read(s: &[u8]) -> SummaryRead
+pub fn read(s: &[u8]) -> Option<Summary>
     ensures { result ≡ summary_of s.now }
 {
     if s.len() != 1024 {
-        return SummaryRead::Invalid;
+        return None;
     }
     let v = summary_in(s);
     if header_meets(s, v) & tracks_meet(v) {
-        SummaryRead::Valid(v)
+        Some(v)
     } else {
-        SummaryRead::Invalid
+        None
     }
 }
 
@@ -91,13 +85,10 @@ pub fn put(part: &mut [u8], v: Summary)
     requires { length part.old ≡ 1024 }
     ensures { part.new ≡ summary_bytes v }
 {
-    let l = v.label;
-    let loss = v.loss;
-    let composite = v.composite;
     known::put_u32(part, 0, v.first);
     known::put_u32(part, 4, v.after);
-    settings::put_label(&mut part[8..32], l);
-    writing::put_track(part, 32, loss);
-    writing::put_track(part, 248, composite);
+    settings::put_label(&mut part[8..32], v.label);
+    writing::put_track(part, 32, v.loss);
+    writing::put_track(part, 248, v.composite);
     known::put_zeros(part, 464, 560);
 }

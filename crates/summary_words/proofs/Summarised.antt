@@ -9,51 +9,46 @@ use native.Mathlib.Omega.{arith}
 use lib.ListN.{length}
 use lib.Dec.{eqb}
 use borrow.Author.Tests.{le-ltb, lt-ltb}
+use Rattle.std.specs.Prelude.{Option, Some, None, Result, Ok, Err}
 use Rattle.numbers.specs.Limits.{intervals}
 use Rattle.numbers.specs.Many.{count_of}
 use Rattle.numbers.specs.Room.{has_room}
-use Rattle.numbers.specs.declared.many.Counted.{Counted}
 use Rattle.numbers.specs.declared.refusal.Fault.{Fault}
 use Rattle.numbers.specs.declared.refusal.Refusal.{Refusal}
 use Rattle.settings.specs.Settings.{settings_of, same_label}
 use Rattle.settings.specs.declared.LabelSettings.{LabelSettings}
-use Rattle.settings.specs.declared.SettingsRead.{SettingsRead}
 use Rattle.intervals.specs.Sequence.{reads_from, intervals_in, checked}
-use Rattle.intervals.specs.declared.Sequence.{Sequence}
 use Rattle.labels.proofs.Places.{checked_place}
 use Rattle.summaries.specs.Stored.{summary_of}
 use Rattle.summaries.specs.declared.Summary.{Summary}
-use Rattle.summaries.specs.declared.SummaryRead.{SummaryRead}
-use Rattle.gathering.specs.declared.Gathered.{Gathered}
 use Rattle.gathering.specs.Gathering.{good_if, gathered}
 use Rattle.making.specs.Making
-use Rattle.making.specs.declared.Made.{Made}
 use Rattle.joining.specs.Joining
-use Rattle.joining.specs.declared.Joined.{Joined}
 use Rattle.summary_words.specs.SummaryList.{made_word, joined_word, SummaryLeft, JoinLeft}
+use Rattle.settings.specs.declared.Settings.{Settings}
 
 -- the place of a fault, 0 where there is none
 
-fault_place : Sequence → ℕ
-fault_place Sequence.Sound = 0
-fault_place (Sequence.Refused r) = r.place
+fault_place : Result (Unit {0}) Refusal → ℕ
+fault_place (Ok tt) = 0
+fault_place (Err r) = r.place
 
 fault_place_lem : (n : ℕ) (s : List ℕ) (k next place : ℕ) → next ≤ intervals → fault_place (checked next place (reads_from n s k)) + next ≤ place + intervals
 unfolding fault_place
 fault_place_lem n s k next place h = by (checked next place (reads_from n s k)) refl
   where
-    by : (q : Sequence) → checked next place (reads_from n s k) ≡ q → fault_place q + next ≤ place + intervals
-    by Sequence.Sound e = omega arith
-    by (Sequence.Refused r) e = checked_place n s k next place r h e
+    by : (q : Result (Unit {0}) Refusal) → checked next place (reads_from n s k) ≡ q → fault_place q + next ≤ place + intervals
+    by (Ok tt) e = omega arith
+    by (Err r) e = checked_place n s k next place r h e
 
-gathered_place : Gathered → ℕ
-gathered_place (Gathered.Good v) = 0
-gathered_place (Gathered.Bad r) = r.place
+gathered_place : Result Summary Refusal → ℕ
+gathered_place (Ok v) = 0
+gathered_place (Err r) = r.place
 
-good_place : (q : Sequence) (v : Summary) → fault_place q ≤ intervals → gathered_place (good_if q v) ≤ intervals
+good_place : (q : Result (Unit {0}) Refusal) (v : Summary) → fault_place q ≤ intervals → gathered_place (good_if q v) ≤ intervals
 unfolding gathered_place fault_place
-good_place Sequence.Sound v h = h
-good_place (Sequence.Refused r) v h = h
+good_place (Ok tt) v h = h
+good_place (Err r) v h = h
 
 gathered_place_lem : (l : LabelSettings) (first : ℕ) (s : List ℕ) → first ≤ intervals → gathered_place (gathered l first s) ≤ intervals
 unfolding gathered intervals_in
@@ -68,40 +63,40 @@ room_place l true first s =
       | no h ↦ rw (lt-ltb intervals first (omega arith)) (omega arith)
     ]
 
-count_place : (l : LabelSettings) (o : Counted) (room : Bool) (first : ℕ) (s : List ℕ) → gathered_place (Making.gathered_count l o room first s) ≤ intervals
+count_place : (l : LabelSettings) (o : Option ℕ) (room : Bool) (first : ℕ) (s : List ℕ) → gathered_place (Making.gathered_count l o room first s) ≤ intervals
 unfolding gathered_place
-count_place l Counted.Ragged room first s = omega arith
-count_place l (Counted.Whole n) room first s = room_place l room first s
+count_place l None room first s = omega arith
+count_place l (Some n) room first s = room_place l room first s
 
-made_place : (o : SettingsRead) (room : Bool) (first : ℕ) (s : List ℕ) → gathered_place (Making.gathered_settings o room first s) ≤ intervals
+made_place : (o : Option Settings) (room : Bool) (first : ℕ) (s : List ℕ) → gathered_place (Making.gathered_settings o room first s) ≤ intervals
 unfolding gathered_place
-made_place SettingsRead.Invalid room first s = omega arith
-made_place (SettingsRead.Valid v) room first s = count_place v.label (count_of (length s) 48) room first s
+made_place None room first s = omega arith
+made_place (Some v) room first s = count_place v.label (count_of (length s) 48) room first s
 
-made_at : Made → ℕ
-made_at Made.Written = 0
-made_at (Made.Refused r) = r.place
+made_at : Result (Unit {0}) Refusal → ℕ
+made_at (Ok tt) = 0
+made_at (Err r) = r.place
 
-made_at_lem : (g : Gathered) → made_at (Making.answer_of g) ≡ gathered_place g
+made_at_lem : (g : Result Summary Refusal) → made_at (Making.answer_of g) ≡ gathered_place g
 unfolding made_at gathered_place
-made_at_lem (Gathered.Good v) = refl
-made_at_lem (Gathered.Bad r) = refl
+made_at_lem (Ok v) = refl
+made_at_lem (Err r) = refl
 
 module _ (settings : List ℕ) (first : ℕ) (s out : List ℕ) (at : ℕ) where
-  pub summary_fits : {after : List ℕ} (a : Made) (r : Refusal) → Making.Outcome settings first s out at a after → a ≡ Made.Refused r → r.place < 2 ^ 32
+  pub summary_fits : {after : List ℕ} (a : Result (Unit {0}) Refusal) (r : Refusal) → Making.Outcome settings first s out at a after → a ≡ Err r → r.place < 2 ^ 32
   unfolding made_at Making.made intervals
   summary_fits a r o e =
       let same : r.place ≡ gathered_place (Making.made settings first s (length out) at) = ap made_at (sym e ∙ o.answered) ∙ made_at_lem (Making.made settings first s (length out) at) in
       omega (arith, same, made_place (settings_of settings) (has_room (length out) at 1024) first s)
 
-  pub summary_word : {after : List ℕ} (a : Made) (n : ℕ) → Making.Outcome settings first s out at a after → n ≡ made_word a → SummaryLeft settings first s out at n after
+  pub summary_word : {after : List ℕ} (a : Result (Unit {0}) Refusal) (n : ℕ) → Making.Outcome settings first s out at a after → n ≡ made_word a → SummaryLeft settings first s out at n after
   summary_word a n o e = record { word = e ∙ ap made_word o.answered; left = o.left }
 
 -- a refusal of `join`
 
-joined_at : Joined → ℕ
-joined_at Joined.Written = 0
-joined_at (Joined.Refused r) = r.place
+joined_at : Result (Unit {0}) Refusal → ℕ
+joined_at (Ok tt) = 0
+joined_at (Err r) = r.place
 
 judged_at : Joining.Judged → ℕ
 judged_at j = joined_at (Joining.answer_of j)
@@ -111,11 +106,11 @@ unfolding judged_at joined_at
 unless_at true f k j h i = i
 unless_at false f k j h i = h
 
-reads_at : (a b : SummaryRead) → judged_at (Joining.judged_reads a b) ≤ 1
+reads_at : (a b : Option Summary) → judged_at (Joining.judged_reads a b) ≤ 1
 unfolding judged_at joined_at
-reads_at SummaryRead.Invalid b = omega arith
-reads_at (SummaryRead.Valid a) SummaryRead.Invalid = omega arith
-reads_at (SummaryRead.Valid a) (SummaryRead.Valid b) =
+reads_at None b = omega arith
+reads_at (Some a) None = omega arith
+reads_at (Some a) (Some b) =
     unless_at (same_label a.label b.label) Fault.Mismatch 1 _ (omega arith)
     (unless_at (eqb a.after b.first) Fault.Order 1 (Joining.good (Joining.joined_of a b)) (omega arith) (omega arith))
 
@@ -127,13 +122,13 @@ judged_at_lem a b len at =
     (unless_at (has_room len at 1024) Fault.Room 0 _ (omega arith) (reads_at (summary_of a) (summary_of b))))
 
 module _ (a b out : List ℕ) (at : ℕ) where
-  pub join_fits : {after : List ℕ} (j : Joined) (r : Refusal) → Joining.Outcome a b out at j after → j ≡ Joined.Refused r → r.place < 2 ^ 32
+  pub join_fits : {after : List ℕ} (j : Result (Unit {0}) Refusal) (r : Refusal) → Joining.Outcome a b out at j after → j ≡ Err r → r.place < 2 ^ 32
   unfolding judged_at joined_at
   join_fits j r o e =
       let same : r.place ≡ judged_at (Joining.judged a b (length out) at) = ap joined_at (sym e ∙ o.answered) in
       omega (arith, same, judged_at_lem a b (length out) at)
 
-  pub join_word : {after : List ℕ} (j : Joined) (n : ℕ) → Joining.Outcome a b out at j after → n ≡ joined_word j → JoinLeft a b out at n after
+  pub join_word : {after : List ℕ} (j : Result (Unit {0}) Refusal) (n : ℕ) → Joining.Outcome a b out at j after → n ≡ joined_word j → JoinLeft a b out at n after
   join_word j n o e = record { word = e ∙ ap joined_word o.answered; left = o.left_in }
 
 -- two results, with the buffers that they leave, that the contract of `mip_summary` allows coincide

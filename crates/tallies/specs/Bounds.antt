@@ -3,7 +3,7 @@
 use Rattle.std.specs.Prelude.{◌≡◌, ℕ, ◌+◌, ◌-◌, ◌*◌, ◌≤◌}
 use Rattle.numbers.specs.Limits.{frames, largest_delay, intervals}
 use Rattle.tallies.specs.declared.Totals.{Totals}
-use Rattle.tallies.specs.declared.Tally.{Tally}
+use Rattle.tallies.specs.declared.ByLabel.{ByLabel}
 use Rattle.tallies.specs.declared.Period.{Period}
 
 pub record Bounded (p : ℕ) (t : Totals) : Type 0 where
@@ -19,7 +19,7 @@ pub record Bounded (p : ℕ) (t : Totals) : Type 0 where
   pub to : t.sum ≤ t.most * (t.sent - t.lost)
 
 -- of a track of `len` intervals
-pub record TallyBounded (p len : ℕ) (t : Tally) : Type 0 where
+pub record TallyBounded (p len : ℕ) (t : ByLabel Totals) : Type 0 where
   pub available : Bounded p t.available
   pub undecided : Bounded p t.undecided
   pub counted : t.available.count + t.unavailable + t.undecided.count ≤ len

@@ -4,14 +4,14 @@ use Rattle.settings.specs.declared.LabelSettings.{LabelSettings}
 use Rattle.intervals.specs.declared.Interval.{Interval}
 use Rattle.rule.specs.Labels.{Label, settled, undecided}
 use Rattle.labels.specs.Marked.{loss_mark, composite_mark}
-use Rattle.tallies.specs.declared.Counts.{Counts}
+use Rattle.tallies.specs.declared.ByLabel.{ByLabel}
 use Rattle.tallies.specs.declared.Marked.{Marked}
 use Rattle.tallies.specs.declared.Period.{Period}
 use Rattle.tallies.specs.Seen.{loss_seen, composite_seen}
 use Rattle.tallies.specs.Tally.{those, tally, Labels}
 
 -- how many intervals of a stretch, numbered from k, have each label and are not in maintenance
-unfoldable pub counted : (ℕ → Label) → ℕ → List Marked → Counts
+unfoldable pub counted : (ℕ → Label) → ℕ → List Marked → ByLabel ℕ
 counted at k xs =
     record {
       available = length (those (settled false) at k xs);

@@ -4,7 +4,7 @@ use Rattle.std.specs.Bool.{beq}
 use Rattle.rule.specs.Labels.{Label, settled, undecided, Meaning}
 use Rattle.tallies.specs.declared.Marked.{Marked}
 use Rattle.tallies.specs.declared.Totals.{Totals}
-use Rattle.tallies.specs.declared.Tally.{Tally}
+use Rattle.tallies.specs.declared.ByLabel.{ByLabel}
 
 -- the two labels are one
 unfoldable pub is : Label → Label → Bool
@@ -84,7 +84,7 @@ totalled p want at k xs =
     }
 
 -- the tally of a stretch whose first interval has the number k
-unfoldable pub tally : ℕ → (ℕ → Label) → ℕ → List Marked → Tally
+unfoldable pub tally : ℕ → (ℕ → Label) → ℕ → List Marked → ByLabel Totals
 tally p at k xs =
     record {
       available = totalled p (settled false) at k xs;

@@ -1,6 +1,8 @@
 // What a report says of a period, and what a track sees of an interval. The definitions that give them their meaning stand in specs/.
 #![tactic(auto)]
 
+ghost use Rattle.std.specs.Prelude.{◌≡◌};
+
 // An interval as one track sees it: its mark (true is high), whether it is in maintenance, and its sums.
 #[derive(Clone, Copy)]
 pub struct Marked {
@@ -26,20 +28,29 @@ pub struct Totals {
     pub most: u32,
 }
 
-// The figures of the available intervals, how many are unavailable, and the figures of those that are undecided.
+// What the intervals with each label come to. The unavailable ones are counted; of the available and of the undecided ones it has a T: their
+// figures, or their number alone.
 #[derive(Clone, Copy)]
-pub struct Tally {
-    pub available: Totals,
+pub struct ByLabel<T> {
+    pub available: T,
     pub unavailable: u32,
-    pub undecided: Totals,
+    pub undecided: T,
 }
 
-// How many intervals are available, unavailable and undecided.
-#[derive(Clone, Copy)]
-pub struct Counts {
-    pub available: u32,
-    pub unavailable: u32,
-    pub undecided: u32,
+impl<T> ByLabel<T> {
+    // The same intervals, with what f tells of each T.
+    pub fn map<U, F: Fn(T) -> U>(self, f: F) -> ByLabel<U>
+        requires { F.IsAlwaysCallable f }
+        ensures available { F.post f self.available result.available }
+        ensures unavailable { result.unavailable ≡ self.unavailable }
+        ensures undecided { F.post f self.undecided result.undecided }
+    {
+        ByLabel {
+            available: f(self.available),
+            unavailable: self.unavailable,
+            undecided: f(self.undecided),
+        }
+    }
 }
 
 // The report of a period: how many intervals it has, how many of them in maintenance, and of the others what each track says.
@@ -47,6 +58,6 @@ pub struct Counts {
 pub struct Period {
     pub length: u32,
     pub maintenance: u32,
-    pub loss: Tally,
-    pub composite: Counts,
+    pub loss: ByLabel<Totals>,
+    pub composite: ByLabel<u32>,
 }

@@ -17,7 +17,7 @@ use Rattle.runs.proofs.Headroom.{turned_heard, turned_silent}
 use Rattle.runs.proofs.Keeping.{none_valid, figures_valid, shut_valid, times_fits}
 use Rattle.tracks.specs.declared.Track.{Track}
 use Rattle.tracks.specs.declared.Track.TheVariants.{Nothing, One, Many}
-use Rattle.tracks.specs.declared.Outcome.{Outcome}
+use Rattle.tallies.specs.declared.ByLabel.{ByLabel}
 use Rattle.tracks.specs.Tracks.{start, decided, outcome, finish, sorted, tallied, whole, count_between, count_in}
 use Rattle.tracks.specs.Valid.{TrackValid}
 use Rattle.tallies.specs.Bounds.{Bounded, TallyBounded}
@@ -49,7 +49,7 @@ unfolding start placed
 start_settled = record { says = false; label = refl; inherited = refl }
 
 -- all that an outcome counts
-count_out : Outcome → ℕ
+count_out : ByLabel Figures → ℕ
 count_out o = o.available.load.count + o.unavailable + o.undecided.load.count
 
 none_count : none.load.count ≡ 0
@@ -83,7 +83,7 @@ sorted_count n p (Many l m t) =
     omega (arith, finish_count n p (times b m) t (times_settled b m s), count_times b m, count_times start (shut n p l), count_shut n p l, start_count)
 
 -- both sets of figures of an outcome
-record OutcomeValid (p : ℕ) (o : Outcome) : Type 0 where
+record OutcomeValid (p : ℕ) (o : ByLabel Figures) : Type 0 where
   available : FiguresValid p o.available
   undecided : FiguresValid p o.undecided
 

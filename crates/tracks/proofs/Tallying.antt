@@ -18,7 +18,7 @@ use Rattle.runs.specs.declared.run.Run.{Run}
 use Rattle.runs.specs.declared.middles.Label.{Label}
 use Rattle.runs.specs.declared.middles.Label.TheVariants.{Inherits, Says}
 use Rattle.runs.specs.declared.middles.Middle.{Middle}
-use Rattle.tracks.specs.declared.Outcome.{Outcome}
+use Rattle.tallies.specs.declared.ByLabel.{ByLabel}
 use Rattle.tracks.specs.declared.Track.TheVariants.{One, Many}
 use Rattle.runs.specs.Figures.{none, plus, both, idle}
 use Rattle.runs.specs.Runs.{single, glue, same, figures_of}
@@ -32,7 +32,7 @@ use Rattle.tracks.proofs.Spanning.{loads, figures, figures_border, figures_in_le
 use Rattle.tracks.proofs.Deciding.{beq_yes, other, Reaches, Labelled, labelled_long, labelled_agreeing, labelled_shut, labelled_uniform, labelled_reaches, undecided_end}
 
 -- a known sequence, run by run: what is shut, and the run that is still open
-follow : ℕ → ℕ → Middle → Run → List Marked → Outcome
+follow : ℕ → ℕ → Middle → Run → List Marked → ByLabel Figures
 follow n p m t [] = finish n p m t
 follow n p m t (x ∷ xs) = cond (same t (single x)) (follow n p m (glue p t (single x)) xs) (follow n p (times m (shut n p t)) (single x) xs)
 
@@ -62,10 +62,10 @@ follow_one n p t (x ∷ xs) = by (same t (single x)) refl (follow_one n p (glue 
     by false e on = rw (e, ← times_unit (times start (shut n p t))) (follow_many n p t unit (single x) xs)
 
 -- two outcomes together
-add : Outcome → Outcome → Outcome
+add : ByLabel Figures → ByLabel Figures → ByLabel Figures
 add a b = record { available = plus a.available b.available; unavailable = a.unavailable + b.unavailable; undecided = plus a.undecided b.undecided }
 
-add_both : (a b c : Outcome) → add (add a b) c ≡ add a (add b c)
+add_both : (a b c : ByLabel Figures) → add (add a b) c ≡ add a (add b c)
 unfolding add
 add_both a b c = λ i.
     record {
@@ -75,13 +75,13 @@ add_both a b c = λ i.
     }
 
 -- figures with the label l
-given : labels.Label → Figures → Outcome
+given : labels.Label → Figures → ByLabel Figures
 given (settled false) f = record { available = f; unavailable = 0; undecided = none }
 given (settled true) f = record { available = none; unavailable = f.load.count; undecided = none }
 given undecided f = record { available = none; unavailable = 0; undecided = f }
 
 -- the outcome of a stretch by its labels
-unfoldable pub reckon : ℕ → (ℕ → labels.Label) → ℕ → List Marked → Outcome
+unfoldable pub reckon : ℕ → (ℕ → labels.Label) → ℕ → List Marked → ByLabel Figures
 reckon p at k xs =
     record {
       available = figures p (settled false) at k xs;
@@ -309,7 +309,7 @@ unfolding reckon start placed figures loads those highs number none idle NoneOf
 reckon_none p at k = rw (runs_none p [] tt)
 
 -- before interval 0 nothing is shut
-add_start : (o : Outcome) → add (outcome start none) o ≡ o
+add_start : (o : ByLabel Figures) → add (outcome start none) o ≡ o
 unfolding add start placed
 add_start o = λ i.
     record { available = none_plus o.available i; unavailable = zero-add o.unavailable i; undecided = none_plus o.undecided i }

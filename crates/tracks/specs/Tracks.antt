@@ -9,8 +9,8 @@ use Rattle.runs.specs.declared.middles.Label.TheVariants.{Inherits, Says}
 use Rattle.runs.specs.declared.middles.Middle.{Middle}
 use Rattle.tracks.specs.declared.Track.{Track}
 use Rattle.tracks.specs.declared.Track.TheVariants.{Nothing, One, Many}
-use Rattle.tracks.specs.declared.Outcome.{Outcome}
-use Rattle.tallies.specs.declared.Tally.{Tally}
+use Rattle.tallies.specs.declared.ByLabel.{ByLabel}
+use Rattle.tallies.specs.declared.Totals.{Totals}
 use Rattle.runs.specs.Figures.{none, reported}
 use Rattle.runs.specs.Runs.{figures_of, single, glue, same, quiet_run}
 use Rattle.runs.specs.Middles.{unit, placed, shut, times, quiet_middle}
@@ -58,25 +58,25 @@ decided n Inherits t = leb n t.len
 decided n (Says b) t = leb n t.len || beq b t.mark
 
 -- the figures behind a middle and, apart, those that are undecided
-abbrev pub outcome : Middle → Figures → Outcome
+abbrev pub outcome : Middle → Figures → ByLabel Figures
 outcome m f = record { available = m.available; unavailable = m.unavailable; undecided = f }
 
 -- a known sequence, all of it but the last run behind its labels
-unfoldable pub finish : ℕ → ℕ → Middle → Run → Outcome
+unfoldable pub finish : ℕ → ℕ → Middle → Run → ByLabel Figures
 finish n p m t = cond (decided n m.label t) (outcome (times m (shut n p t)) none) (outcome m (figures_of p t))
 
 -- a known sequence from interval 0
-unfoldable pub sorted : ℕ → ℕ → Track → Outcome
+unfoldable pub sorted : ℕ → ℕ → Track → ByLabel Figures
 sorted n p Nothing = outcome start none
 sorted n p (One t) = finish n p start t
 sorted n p (Many l m t) = finish n p (times (times start (shut n p l)) m) t
 
 -- an outcome as it is reported
-unfoldable pub tallied : Outcome → Tally
+unfoldable pub tallied : ByLabel Figures → ByLabel Totals
 tallied o = record { available = reported o.available; unavailable = o.unavailable; undecided = reported o.undecided }
 
 -- the tally of a known sequence from interval 0
-unfoldable pub whole : ℕ → ℕ → Track → Tally
+unfoldable pub whole : ℕ → ℕ → Track → ByLabel Totals
 whole n p t = tallied (sorted n p t)
 
 -- how many intervals of a middle, and of a track, count: all but those in maintenance

@@ -10,9 +10,9 @@ ghost use Rattle.tracks.specs.Valid.{PushFits, GraftFits, JoinFits, FinishFits, 
 
 use runs::figures::Figures;
 use runs::middles::{Label, Middle};
-use runs::run::Run;
+use runs::run::{Lengths, Run};
 use runs::{figures, middles, run};
-use tallies::Tally;
+use tallies::{ByLabel, Totals};
 
 // Nothing, one run, or a first run, what lies between, and a last run.
 #[derive(Clone, Copy)]
@@ -22,33 +22,26 @@ pub enum Track {
     Many(Run, Middle, Run),
 }
 
-// A known sequence from interval 0: the figures of its available intervals, how many are unavailable, and the figures of those that are
-// undecided.
-#[derive(Clone, Copy)]
-pub struct Outcome {
-    pub available: Figures,
-    pub unavailable: u32,
-    pub undecided: Figures,
-}
-
 // The middle of a track of several runs, the last of which is t, with the run r behind it: where the mark changes t is shut.
-pub fn middle_with(n: u32, p: u32, m: Middle, t: Run, r: Run) -> Middle
-    requires { ShutFits p m t }
-    ensures { result ≡ cond (same t r) m (times m (shut n p t)) }
+#[tactic(auto, unfolding(runs::specs::Runs::same))]
+pub fn middle_with(by: Lengths, m: Middle, t: Run, r: Run) -> Middle
+    requires { ShutFits by.p m t }
+    ensures { result ≡ cond (same t r) m (times m (shut by.n by.p t)) }
 {
-    if run::same(t, r) {
+    if t.mark == r.mark {
         m
     } else {
-        middles::shut_onto(n, p, m, t)
+        middles::shut_onto(by, m, t)
     }
 }
 
 // The last run of such a track.
+#[tactic(auto, unfolding(runs::specs::Runs::same))]
 pub fn last_with(p: u32, t: Run, r: Run) -> Run
     requires { RunsFit t r }
     ensures { result ≡ cond (same t r) (glue p t r) r }
 {
-    if run::same(t, r) {
+    if t.mark == r.mark {
         run::glue(p, t, r)
     } else {
         r
@@ -56,27 +49,29 @@ pub fn last_with(p: u32, t: Run, r: Run) -> Run
 }
 
 // A run behind a track. While the mark stays, only the last run changes.
-pub fn push(n: u32, p: u32, a: Track, r: Run) -> Track
-    requires { PushFits n p a r }
-    ensures { result ≡ push n p a r }
+#[tactic(auto, unfolding(crate::specs::Tracks::push, runs::specs::Runs::same))]
+pub fn push(by: Lengths, a: Track, r: Run) -> Track
+    requires { PushFits by.n by.p a r }
+    ensures { result ≡ push by.n by.p a r }
 {
     match a {
         Track::Nothing => Track::One(r),
         Track::One(t) => {
-            if run::same(t, r) {
-                Track::One(run::glue(p, t, r))
+            if t.mark == r.mark {
+                Track::One(run::glue(by.p, t, r))
             } else {
                 Track::Many(t, middles::unit(), r)
             }
         }
-        Track::Many(l, m, t) => { Track::Many(l, middle_with(n, p, m, t, r), last_with(p, t, r)) }
+        Track::Many(l, m, t) => Track::Many(l, middle_with(by, m, t, r), last_with(by.p, t, r)),
     }
 }
 
 // A middle and a last run behind a track, whose own last run is shut.
-fn graft(n: u32, p: u32, a: Track, m: Middle, t: Run) -> Track
-    requires { GraftFits n p a m }
-    ensures { result ≡ graft n p a m t }
+#[tactic(auto, unfolding(crate::specs::Tracks::graft))]
+fn graft(by: Lengths, a: Track, m: Middle, t: Run) -> Track
+    requires { GraftFits by.n by.p a m }
+    ensures { result ≡ graft by.n by.p a m t }
 {
     match a {
         Track::Nothing => Track::One(t),
@@ -84,7 +79,7 @@ fn graft(n: u32, p: u32, a: Track, m: Middle, t: Run) -> Track
         Track::Many(l, held, last) => {
             Track::Many(
                 l,
-                middles::times(held, middles::times(middles::shut(n, p, last), m)),
+                middles::times(held, middles::times(middles::shut(by, last), m)),
                 t,
             )
         }
@@ -92,18 +87,20 @@ fn graft(n: u32, p: u32, a: Track, m: Middle, t: Run) -> Track
 }
 
 // Two tracks, one after the other.
-pub fn join(n: u32, p: u32, a: Track, b: Track) -> Track
-    requires { JoinFits n p a b }
-    ensures { result ≡ join n p a b }
+#[tactic(auto, unfolding(crate::specs::Tracks::join))]
+pub fn join(by: Lengths, a: Track, b: Track) -> Track
+    requires { JoinFits by.n by.p a b }
+    ensures { result ≡ join by.n by.p a b }
 {
     match b {
         Track::Nothing => a,
-        Track::One(r) => push(n, p, a, r),
-        Track::Many(l, m, t) => graft(n, p, push(n, p, a, l), m, t),
+        Track::One(r) => push(by, a, r),
+        Track::Many(l, m, t) => graft(by, push(by, a, l), m, t),
     }
 }
 
 // The same track, all in maintenance.
+#[tactic(auto, unfolding(crate::specs::Tracks::quiet))]
 pub fn quiet(a: Track) -> Track
     ensures { result ≡ quiet a }
 {
@@ -119,6 +116,7 @@ pub fn quiet(a: Track) -> Track
 }
 
 // Before interval 0 the label counts as available.
+#[tactic(auto, unfolding(crate::specs::Tracks::start))]
 fn start() -> Middle
     ensures { result ≡ start }
 {
@@ -126,6 +124,7 @@ fn start() -> Middle
 }
 
 // Whether a run at the end, behind a label, has its label whatever comes.
+#[tactic(auto, unfolding(crate::specs::Tracks::decided))]
 fn decided(n: u32, l: Label, t: Run) -> bool
     ensures { result ≡ decided n l t }
 {
@@ -136,45 +135,43 @@ fn decided(n: u32, l: Label, t: Run) -> bool
 }
 
 // A known sequence, all of it but the last run behind its labels.
-fn finish(n: u32, p: u32, m: Middle, t: Run) -> Outcome
-    requires { FinishFits p m t }
-    ensures { result ≡ finish n p m t }
+#[tactic(auto, unfolding(crate::specs::Tracks::finish))]
+fn finish(by: Lengths, m: Middle, t: Run) -> ByLabel<Figures>
+    requires { FinishFits by.p m t }
+    ensures { result ≡ finish by.n by.p m t }
 {
-    let l = m.label;
-    if decided(n, l, t) {
-        let all = middles::times(m, middles::shut(n, p, t));
-        let available = all.available;
-        return Outcome {
-            available,
+    if decided(by.n, m.label, t) {
+        let all = middles::times(m, middles::shut(by, t));
+        return ByLabel {
+            available: all.available,
             unavailable: all.unavailable,
             undecided: figures::none(),
         };
     }
-    let available = m.available;
-    Outcome {
-        available,
+    ByLabel {
+        available: m.available,
         unavailable: m.unavailable,
-        undecided: run::figures_of(p, t),
+        undecided: run::figures_of(by.p, t),
     }
 }
 
 // A known sequence from interval 0.
-pub fn sorted(n: u32, p: u32, t: Track) -> Outcome
-    requires { TrackFits n p t }
-    ensures { result ≡ sorted n p t }
+#[tactic(auto, unfolding(crate::specs::Tracks::sorted, crate::specs::Tracks::start, runs::specs::Middles::placed))]
+pub fn sorted(by: Lengths, t: Track) -> ByLabel<Figures>
+    requires { TrackFits by.n by.p t }
+    ensures { result ≡ sorted by.n by.p t }
 {
     match t {
-        Track::Nothing => Outcome {
+        Track::Nothing => ByLabel {
             available: figures::none(),
             unavailable: 0,
             undecided: figures::none(),
         },
-        Track::One(last) => finish(n, p, start(), last),
+        Track::One(last) => finish(by, start(), last),
         Track::Many(first, m, last) => {
             finish(
-                n,
-                p,
-                middles::times(middles::times(start(), middles::shut(n, p, first)), m),
+                by,
+                middles::times(middles::times(start(), middles::shut(by, first)), m),
                 last,
             )
         }
@@ -182,45 +179,34 @@ pub fn sorted(n: u32, p: u32, t: Track) -> Outcome
 }
 
 // An outcome as it is reported.
-pub fn tallied(o: Outcome) -> Tally
+#[tactic(auto, unfolding(crate::specs::Tracks::tallied))]
+pub fn tallied(o: ByLabel<Figures>) -> ByLabel<Totals>
     ensures { result ≡ tallied o }
 {
-    let settled = o.available;
-    let pending = o.undecided;
-    Tally {
-        available: figures::reported(settled),
-        unavailable: o.unavailable,
-        undecided: figures::reported(pending),
-    }
+    o.map(figures::reported)
 }
 
 // The tally of a known sequence from interval 0.
-pub fn whole(n: u32, p: u32, t: Track) -> Tally
-    requires { TrackFits n p t }
-    ensures { result ≡ whole n p t }
+#[tactic(auto, unfolding(crate::specs::Tracks::whole))]
+pub fn whole(by: Lengths, t: Track) -> ByLabel<Totals>
+    requires { TrackFits by.n by.p t }
+    ensures { result ≡ whole by.n by.p t }
 {
-    tallied(sorted(n, p, t))
+    tallied(sorted(by, t))
 }
 
 // How many intervals count: all but those in maintenance.
+#[tactic(auto, unfolding(crate::specs::Tracks::count_in, crate::specs::Tracks::count_between))]
 pub fn count_in(t: Track) -> u32
     requires { count_in t < 4294967296 }
     ensures { result ≡ count_in t }
 {
     match t {
         Track::Nothing => 0,
-        Track::One(last) => {
-            let l = last.load;
-            l.count
-        }
+        Track::One(last) => last.load.count,
         Track::Many(first, m, last) => {
-            let inherited = m.inherited;
-            let available = m.available;
-            let i = inherited.load;
-            let a = available.load;
-            let f = first.load;
-            let l = last.load;
-            f.count + ((i.count + (a.count + m.unavailable)) + l.count)
+            let between = m.inherited.load.count + (m.available.load.count + m.unavailable);
+            first.load.count + (between + last.load.count)
         }
     }
 }

@@ -12,7 +12,7 @@ use Rattle.numbers.specs.Limits.{frames, million, largest_delay}
 use Rattle.settings.specs.declared.Settings.{Settings}
 use Rattle.tallies.specs.declared.Period.{Period}
 use Rattle.tallies.specs.Bounds.{PeriodBounded}
-use Rattle.verdicts.specs.declared.Tested.{Tested}
+use Rattle.verdicts.specs.declared.PerObjective.{PerObjective}
 use Rattle.verdicts.specs.declared.Verdict.{Verdict}
 use Rattle.verdicts.specs.Verdicts.{common, enough, loss_met, mean_met, met_by, agreed, asked, taken_as, verdicts_of}
 use Rattle.verdicts.specs.Sets.{any, of_set}
@@ -40,7 +40,7 @@ kept (suc k) met a b h = record { as_before = λ e. absurd (omega arith); stays 
 
 -- on every report that can come out, objective by objective
 module _ (v : Settings) (p : ℕ) (r : Period) (b : PeriodBounded p r) where
-  abbrev plain : Tested
+  abbrev plain : PerObjective Bool
   plain = met_by v (asked r)
 
   abbrev withholding : ℕ

@@ -5,23 +5,16 @@ use mathlib.Core.Bool.{Bool, true, false, cond, ◌||◌, or_assoc, or-true}
 use mathlib.Core.List.{List, [], ◌∷◌, ◌++◌, map, map-append}
 use lib.Dec.{eqb}
 use Rattle.verdicts.specs.declared.Verdict.{Verdict}
-use Rattle.verdicts.specs.declared.Verdicts.{Verdicts}
+use Rattle.verdicts.specs.declared.PerObjective.{PerObjective}
 use Rattle.verdicts.specs.Verdicts.{verdict_number}
 use Rattle.verdicts.specs.Sets.{any, of_set, of_sets}
 
--- a set of one, and a met one beside it
-
+-- a set of one
 pub of_one : (a : Verdict) → of_set (a ∷ []) ≡ a
 unfolding any of_set
 of_one Verdict.NotMet = refl
 of_one Verdict.Met = refl
 of_one Verdict.NotYet = refl
-
-pub met_first : (b : Verdict) → of_set (Verdict.Met ∷ b ∷ []) ≡ b
-unfolding any of_set
-met_first Verdict.NotMet = refl
-met_first Verdict.Met = refl
-met_first Verdict.NotYet = refl
 
 -- two parts
 
@@ -54,11 +47,11 @@ set_append xs ys =
 
 -- objective by objective
 
-mapped : (f : Verdicts → Verdict) (xs ys : List Verdicts)
+mapped : (f : PerObjective Verdict → Verdict) (xs ys : List (PerObjective Verdict))
     → of_set (map f (xs ++ ys)) ≡ of_set (of_set (map f xs) ∷ of_set (map f ys) ∷ [])
 mapped f xs ys = rw (map-append f xs ys) (set_append (map f xs) (map f ys))
 
-pub sets_append : (xs ys : List Verdicts) → of_sets (xs ++ ys) ≡ of_sets (of_sets xs ∷ of_sets ys ∷ [])
+pub sets_append : (xs ys : List (PerObjective Verdict)) → of_sets (xs ++ ys) ≡ of_sets (of_sets xs ∷ of_sets ys ∷ [])
 unfolding of_sets
 sets_append xs ys =
     λ i.
@@ -71,7 +64,7 @@ sets_append xs ys =
       runs = mapped (λ x. x.runs) xs ys i;
     }
 
-pub sets_of_one : (x : Verdicts) → of_sets (x ∷ []) ≡ x
+pub sets_of_one : (x : PerObjective Verdict) → of_sets (x ∷ []) ≡ x
 unfolding of_sets
 sets_of_one x =
     λ i.
@@ -85,8 +78,8 @@ sets_of_one x =
     }
 
 -- one more at the end
-pub sets_more : (xs : List Verdicts) (x : Verdicts) → of_sets (xs ++ (x ∷ [])) ≡ of_sets (of_sets xs ∷ x ∷ [])
-sets_more xs x = sets_append xs (x ∷ []) ∙ ap (λ (y : Verdicts). of_sets (of_sets xs ∷ y ∷ [])) (sets_of_one x)
+pub sets_more : (xs : List (PerObjective Verdict)) (x : PerObjective Verdict) → of_sets (xs ++ (x ∷ [])) ≡ of_sets (of_sets xs ∷ x ∷ [])
+sets_more xs x = sets_append xs (x ∷ []) ∙ ap (λ (y : PerObjective Verdict). of_sets (of_sets xs ∷ y ∷ [])) (sets_of_one x)
 
 -- one that is not met is the set's verdict, whatever the others say; one that is not yet is, where none is not met
 

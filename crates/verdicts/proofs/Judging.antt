@@ -16,9 +16,8 @@ use Rattle.tallies.specs.declared.Period.{Period}
 use Rattle.tallies.specs.Report.{report}
 use Rattle.tallies.specs.Bounds.{PeriodBounded}
 use Rattle.verdicts.specs.declared.Asked.{Asked}
-use Rattle.verdicts.specs.declared.Tested.{Tested}
 use Rattle.verdicts.specs.declared.Verdict.{Verdict}
-use Rattle.verdicts.specs.declared.Verdicts.{Verdicts}
+use Rattle.verdicts.specs.declared.PerObjective.{PerObjective}
 use Rattle.verdicts.specs.Verdicts.{enough, loss_met, mean_met, met_by, common, agreed, taken, asked, verdicts_by, taken_as, verdicts_of}
 use Rattle.verdicts.proofs.Fitting.{sum_few}
 
@@ -57,7 +56,7 @@ said false false =
       not_met = ((λ e. (refl, refl)), (λ e f. refl));
     }
 
-pub record EachExactly (a b : Tested) (w : Verdicts) : Type 0 where
+pub record EachExactly (a b : PerObjective Bool) (w : PerObjective Verdict) : Type 0 where
   pub availability : Exactly a.availability b.availability w.availability
   pub composite : Exactly a.composite b.composite w.composite
   pub loss : Exactly a.loss b.loss w.loss
@@ -65,7 +64,7 @@ pub record EachExactly (a b : Tested) (w : Verdicts) : Type 0 where
   pub high : Exactly a.high b.high w.high
   pub runs : Exactly a.runs b.runs w.runs
 
-each_said : (a b : Tested) → EachExactly a b (agreed a b)
+each_said : (a b : PerObjective Bool) → EachExactly a b (agreed a b)
 unfolding agreed
 each_said a b =
     record {

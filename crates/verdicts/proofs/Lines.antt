@@ -15,7 +15,8 @@ use Rattle.tallies.specs.Report.{counted, resting, report}
 use Rattle.tallies.specs.Seen.{marked_as}
 use Rattle.tallies.specs.Tally.{is, counts, those, highs, number, first_all, begun, runs_of, total, delivering, smallest, greatest, totalled, tally}
 use Rattle.tallies.proofs.Known.{label_from}
-use Rattle.verdicts.specs.declared.Verdicts.{Verdicts}
+use Rattle.verdicts.specs.declared.PerObjective.{PerObjective}
+use Rattle.verdicts.specs.declared.Verdict.{Verdict}
 use Rattle.verdicts.specs.Verdicts.{verdict_number, enough, loss_met, mean_met, met_by, common, agreed, decided, asked, verdicts_by}
 use Rattle.verdicts.specs.Sets.{any, of_set, of_sets}
 
@@ -57,10 +58,10 @@ G = interval 6 0 1000 false
 abbrev F : Interval
 F = interval 0 10 4000001 false
 
-abbrev of : Settings → List Interval → Verdicts
+abbrev of : Settings → List Interval → PerObjective Verdict
 of v xs = verdicts_by v (label_from 3 (map (loss_mark v.label) xs)) (label_from 3 (map (composite_mark v.label) xs)) 0 xs
 
-abbrev six : Verdicts → List ℕ
+abbrev six : PerObjective Verdict → List ℕ
 six w =
     verdict_number w.availability
     ∷ verdict_number w.composite

@@ -1,7 +1,7 @@
 -- The verdict of a set, as 01 has it: not met if any is not met; else not yet if any is not yet; else met.
 use Rattle.std.specs.Prelude.{Bool, false, cond, ◌||◌, List, [], ◌∷◌, map, eqb}
 use Rattle.verdicts.specs.declared.Verdict.{Verdict}
-use Rattle.verdicts.specs.declared.Verdicts.{Verdicts}
+use Rattle.verdicts.specs.declared.PerObjective.{PerObjective}
 use Rattle.verdicts.specs.Verdicts.{verdict_number}
 
 -- any is the one asked for
@@ -13,7 +13,7 @@ unfoldable pub of_set : List Verdict → Verdict
 of_set xs = cond (any Verdict.NotMet xs) Verdict.NotMet (cond (any Verdict.NotYet xs) Verdict.NotYet Verdict.Met)
 
 -- per objective
-unfoldable pub of_sets : List Verdicts → Verdicts
+unfoldable pub of_sets : List (PerObjective Verdict) → PerObjective Verdict
 of_sets xs =
     record {
       availability = of_set (map (λ x. x.availability) xs);

@@ -1,7 +1,7 @@
 -- The verdicts of an ordered pair. The undecided intervals of the period are taken all as available, and all as unavailable; the tests of 01 are asked both times; where the two
 -- agree, that is the verdict, and else it is "not yet". By labels (`verdicts_by`) this is the definition, on the report of 01; by the figures of a report (`verdicts_of`) it is a
 -- matter of sums, and on a report by labels the same (`verdicts_taken` in proofs/Taken).
-use Rattle.std.specs.Prelude.{Bool, true, false, List, ℕ, ◌+◌, ◌-◌, ◌*◌, ◌≤◌, leb}
+use Rattle.std.specs.Prelude.{Bool, true, false, List, ℕ, ◌+◌, ◌-◌, ◌*◌, ◌≤◌, leb, codes}
 use Rattle.numbers.specs.Limits.{intervals, frames, million, largest_delay}
 use Rattle.settings.specs.declared.Settings.{Settings}
 use Rattle.intervals.specs.declared.Interval.{Interval}
@@ -9,15 +9,20 @@ use Rattle.rule.specs.Labels.{Label, settled, undecided}
 use Rattle.tallies.specs.declared.Period.{Period}
 use Rattle.tallies.specs.Report.{report}
 use Rattle.verdicts.specs.declared.Asked.{Asked}
-use Rattle.verdicts.specs.declared.Tested.{Tested}
+use Rattle.verdicts.specs.declared.PerObjective.{PerObjective}
 use Rattle.verdicts.specs.declared.Verdict.{Verdict}
-use Rattle.verdicts.specs.declared.Verdicts.{Verdicts}
 
 -- a verdict's number
 abbrev pub verdict_number : Verdict → ℕ
 verdict_number Verdict.NotMet = 0
 verdict_number Verdict.Met = 1
 verdict_number Verdict.NotYet = 2
+
+-- a verdict's words
+abbrev pub verdict_text : Verdict → List ℕ
+verdict_text Verdict.NotMet = codes "not met"
+verdict_text Verdict.Met = codes "met"
+verdict_text Verdict.NotYet = codes "not yet"
 
 -- the tests: each objective against what it is asked of
 
@@ -34,7 +39,7 @@ unfoldable pub mean_met : ℕ → Asked → Bool
 mean_met objective a = leb a.sum (objective * (a.sent - a.lost))
 
 -- the six
-unfoldable pub met_by : Settings → Asked → Tested
+unfoldable pub met_by : Settings → Asked → PerObjective Bool
 met_by v a =
     record {
       availability = enough v.availability a.available a.unavailable;
@@ -53,7 +58,7 @@ common false true = Verdict.NotYet
 common false false = Verdict.NotMet
 
 -- the six
-unfoldable pub agreed : Tested → Tested → Verdicts
+unfoldable pub agreed : PerObjective Bool → PerObjective Bool → PerObjective Verdict
 agreed a b =
     record {
       availability = common a.availability b.availability;
@@ -91,7 +96,7 @@ asked r =
     }
 
 -- the verdicts of a period, whose first interval has the number k. Labels outside it are in none of its figures
-unfoldable pub verdicts_by : Settings → (ℕ → Label) → (ℕ → Label) → ℕ → List Interval → Verdicts
+unfoldable pub verdicts_by : Settings → (ℕ → Label) → (ℕ → Label) → ℕ → List Interval → PerObjective Verdict
 verdicts_by v loss composite k period =
     agreed (met_by v (asked (report v.label (taken false loss) (taken false composite) k period)))
     (met_by v (asked (report v.label (taken true loss) (taken true composite) k period)))
@@ -125,7 +130,7 @@ taken_as true r =
       sum = r.loss.available.sum;
     }
 
-unfoldable pub verdicts_of : Settings → Period → Verdicts
+unfoldable pub verdicts_of : Settings → Period → PerObjective Verdict
 verdicts_of v r = agreed (met_by v (taken_as false r)) (met_by v (taken_as true r))
 
 -- what keeps the sums and products in 64 bits: objectives, intervals, frames and delays within their limits

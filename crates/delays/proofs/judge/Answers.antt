@@ -1,6 +1,7 @@
 -- `judge` meets its contract: FULL, then nothing listed, then FIELD where the survey counted too few delays within the limit, then
 -- the answer.
-use mathlib.Core.Path.{◌∙◌}
+use mathlib.Core.Path.{ap, ◌∙◌}
+use Rattle.std.specs.Prelude.{Err}
 use native.Mathlib.Omega.{arith}
 use Rattle.numbers.specs.Limits.{delays, largest_delay}
 use Rattle.delays.proofs.Judged.{judged_full, judged_field, judged_none, judged_found, least_under}
@@ -8,7 +9,7 @@ use Rattle.delays.proofs.judge.Goals as goal
 
 pub returns-then-list-gt-DELAYS : goal.returns-then-list-gt-DELAYS
 unfolding delays
-returns-then-list-gt-DELAYS c = judged_full _ _ c.if-list-gt-DELAYS.true
+returns-then-list-gt-DELAYS c = ap Err c.at.ensures ∙ judged_full _ _ c.if-list-gt-DELAYS.true
 
 pub returns-then-list-eq0 : goal.returns-then-list-eq0
 returns-then-list-eq0 c = c.answer.ensures ∙ judged_none _ _ c.if-list-eq0.true
@@ -22,7 +23,7 @@ unfolding delays largest_delay
 returns-then-s-list c =
     let short = c.if-list-gt-DELAYS.false in
     let survey = c.survey-s.ensures in
-    judged_field _ _ _ _ short survey.all c.if-s-list.true c.place_above-at.ensures
+    ap Err c.at-then-s-list.ensures ∙ judged_field _ _ _ _ short survey.all c.if-s-list.true c.place_above-at.ensures
 
 pub overflow_sub-d : goal.overflow_sub-d
 overflow_sub-d c =

@@ -1,28 +1,13 @@
--- `place_above` meets its contract. The invariant: the place is i more than that in what is left from i on.
-use Prim.Native.Nat.{ℕ}
-use mathlib.Core.Path.{◌≡◌, ap}
-use native.Mathlib.Omega.{arith}
-use lib.ListN.{length, drop}
+-- `place_above` meets its contract: the first delay that the search stops at is the first above, and the length stands for none.
+use Rattle.std.proofs.Common.{◌<◌, ◌≤◌, refl, sym, ◌∙◌, rules, arith}
+use Rattle.std.proofs.lemmas.Iterator.{YieldsList-from_slice, IsFirst-from_position, index_from_first}
+use borrow.Author.Tests.{tests, le-leb, lt-leb}
 use Rattle.percentile.specs.Percentile.{place_above}
-use Rattle.percentile.proofs.Place.{place_here, place_on, place_none}
 use Rattle.delays.proofs.place_above.Goals as goal
 
-pub returns-then-largest-list : goal.returns-then-largest-list
-returns-then-largest-list c =
-    let i = c.loop-i.i in
-    let inside = c.loop-i-test.true in
-    omega (arith, place_here c.args.largest c.args.list.now i inside c.if-largest-list.true)
-
-pub loop-i-preserved : goal.loop-i-preserved
-loop-i-preserved c =
-    let i = c.loop-i.i in
-    let inside = c.loop-i-test.true in
-    omega (arith, place_on c.args.largest c.args.list.now i inside c.if-largest-list.false)
-
 pub returns : goal.returns
-returns c =
-    let i = c.loop-i.i in
-    let xs = c.args.list.now in
-    let m = c.args.largest in
-    let e : i ≡ length xs = omega arith in
-    omega (arith, place_none m xs, ap (λ (z : ℕ). place_above m (drop z xs)) e)
+unfolding place_above
+returns c = let m = c.args.largest in let xs = c.args.list.now in
+    let first = IsFirst-from_position _ _ c.position.result (λ x. m < x) (λ x. x ≤ m) c.position.ensures.ran (YieldsList-from_slice xs cc) (λ x q k. search (rules, tests)) (λ x q k. search (rules, tests)) in
+    c.unwrap_or.ensures ∙ sym (index_from_first (place_above m) (λ x. m < x) (λ x. x ≤ m) refl
+    (λ x ys h. rw (lt-leb x m h) refl) (λ x ys h. rw (le-leb x m h) (omega arith)) xs c.position.result first)

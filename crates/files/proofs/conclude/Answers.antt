@@ -1,8 +1,8 @@
 -- `files::conclude` meets its contract, one case after the other: a summary that stands at the end was held, so it is known.
 use mathlib.Core.Path.{ap, ap₂, sym, ◌∙◌}
+use Rattle.std.specs.Prelude.{Ok}
 use Rattle.feeding.specs.Feeding.{finished_by}
 use Rattle.files.specs.Files.{concluded_by}
-use Rattle.files.specs.declared.Concluded.{Concluded}
 use Rattle.files.proofs.Between.{good_held}
 use Rattle.files.proofs.conclude.Goals as goal
 
@@ -20,7 +20,7 @@ judge-requires c = let a = c.args in
 
 pub returns-in-Good : goal.returns-in-Good
 returns-in-Good c =
-    ap Concluded.Answered c.judge.ensures
+    ap Ok c.judge.ensures
     ∙ sym (ap₂ concluded_by (sym c.read.ensures ∙ c.in-Valid.is) (sym c.finish-made.ensures ∙ c.in-Good.is))
 
 pub returns-in-Bad : goal.returns-in-Bad

@@ -1,12 +1,7 @@
--- What stands at each turn of `gathering::go_on`: both tracks as gathered so far, and the segment behind them. Each turn leaves a record fewer.
-use Prim.Native.Nat.{◌-◌}
+-- What stands at each turn of `gathering::go_on`: both tracks as gathered so far, and the segment behind them.
 use Rattle.gathering.proofs.Segments.{Going, of_first}
 use Rattle.gathering.proofs.go_on.Given as goal
 
 abbrev pub invariant-loop-k : goal.invariant-loop-k
 invariant-loop-k l =
     Going l.l l.s l.n l.first (of_first l.l l.s l.n l.first l.initial.segment l.initial.high) l.loss l.composite l.segment l.high l.next l.k
-
-abbrev pub decreases-loop-k : goal.decreases-loop-k
-decreases-loop-k l =
-    l.n - l.k

@@ -22,4 +22,4 @@ one_case largest zero zero zero (suc sum) = simp (eqb-suc-zero, leb-suc-zero, le
 pub returns : goal.returns
 unfolding delays_meet delay_rules no_delay_rules largest_delay
 returns c = let v = c.args.v in
-    rw (c.times-low.ensures, c.times-high.ensures, c.delivered-got.ensures) (one_case largest_delay (v.sent - v.lost) v.least v.most v.sum)
+    rw c.delivered-got.ensures (one_case largest_delay (v.sent - v.lost) v.least v.most v.sum)

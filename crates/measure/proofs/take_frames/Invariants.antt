@@ -1,7 +1,7 @@
 -- `measure::take_frames` meets its contract: at each turn the laws of `Taking` say what the frame at k does.
 use mathlib.Core.Path.{◌≡◌}
 use mathlib.Core.List.{List}
-use Prim.Native.Nat.{ℕ, ◌-◌, ◌≤◌}
+use Prim.Native.Nat.{ℕ, ◌-◌}
 use Rattle.measure.specs.Outcome.{frames_in, reads_from}
 use Rattle.measure.specs.Running.{nothing, taken_of, Small}
 use Rattle.measure.specs.declared.Tally.{Tally}
@@ -9,7 +9,6 @@ use Rattle.measure.proofs.take_frames.Given as goal
 
 -- k frames are taken, and the answer is that of the frames from k on
 pub record Inv (s : List ℕ) (n from to dl jt : ℕ) (t : Tally) (earliest k : ℕ) : Type 0 where
-  pub done : k ≤ n
   pub sent : t.sent ≡ k
   pub small : Small t
   pub goes_on :
@@ -17,6 +16,3 @@ pub record Inv (s : List ℕ) (n from to dl jt : ℕ) (t : Tally) (earliest k : 
 
 abbrev pub invariant-loop-k : goal.invariant-loop-k
 invariant-loop-k l = Inv l.s l.n l.from l.to l.dl l.jt l.t l.earliest l.k
-
-abbrev pub decreases-loop-k : goal.decreases-loop-k
-decreases-loop-k l = l.n - l.k

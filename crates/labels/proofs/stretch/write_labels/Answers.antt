@@ -16,9 +16,6 @@ settle_both-t-requires c =
     let o = c.loop-k in
     lanes_settling c.args.l c.args.r.now o.k o.t c.args.part.now o.part c.requires o.invariant (search rules)
 
-pub overflow_add-k : goal.overflow_add-k
-overflow_add-k c = omega (arith, c.loop-k-test)
-
 pub loop-k-preserved : goal.loop-k-preserved
 loop-k-preserved c =
     let o = c.loop-k in

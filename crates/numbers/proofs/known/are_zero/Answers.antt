@@ -1,24 +1,26 @@
--- `numbers::known::are_zero` meets its contract. The loop's invariant: the answer is that of the bytes passed and of those left.
-use mathlib.Core.Path.{◌≡◌, refl, ap, sym, ◌∙◌}
-use mathlib.Core.Bool.{◌&&◌, and-true}
-use native.Mathlib.Omega.{arith}
+-- `numbers::known::are_zero` meets its contract: each turn asks one byte more.
+use Rattle.std.proofs.Common.{◌≡◌, ◌+◌, ◌-◌, ◌<◌, length, get_or, take, drop, length-take, length-drop, refl, ap, sym, ◌∙◌, arith}
+use Rattle.std.proofs.lemmas.List.{get_or-take, get_or-drop}
 use Rattle.numbers.specs.Bytes.{are_zero}
-use Rattle.numbers.proofs.Zeros.{zero_next}
+use Rattle.numbers.proofs.Zeros.{zero_last}
 use Rattle.numbers.proofs.known.are_zero.Goals as goal
 
-pub loop-left-init : goal.loop-left-init
-loop-left-init c = (omega arith, refl)
+pub loop-b-init : goal.loop-b-init
+unfolding are_zero
+loop-b-init c = refl
 
-pub loop-left-preserved : goal.loop-left-preserved
-loop-left-preserved c =
-    let l = c.loop-left in
-    let s = c.args.s.now in
-    (omega arith, l.invariant.1 ∙ zero_next l.left s l.at l.all (omega arith))
+pub loop-b-preserved : goal.loop-b-preserved
+loop-b-preserved c = let a = c.args in let l = c.loop-b in
+    let k = a.i + a.count - a.i in
+    let long : length (take k (drop a.i a.s.now)) ≡ a.count = simp (length-take, length-drop) (omega (arith, c.requires)) in
+    let here : l.b-index < k = omega (arith, c.loop-b-test.true) in
+    let read : get_or (take k (drop a.i a.s.now)) l.b-index 0 ≡ get_or a.s.now (a.i + l.b-index) 0 =
+    get_or-take k (drop a.i a.s.now) l.b-index 0 here ∙ get_or-drop a.i a.s.now l.b-index 0 in
+    rw (l.invariant, read) (sym (zero_last l.b-index a.s.now a.i))
 
 pub returns : goal.returns
-unfolding are_zero
-returns c =
-    let l = c.loop-left in
-    let s = c.args.s.now in
-    let none : l.left ≡ 0 = omega arith in
-    sym (l.invariant.1 ∙ ap (λ k. l.all && are_zero k s l.at) none ∙ and-true l.all)
+returns c = let a = c.args in let l = c.loop-b in
+    let k = a.i + a.count - a.i in
+    let long : length (take k (drop a.i a.s.now)) ≡ a.count = simp (length-take, length-drop) (omega (arith, c.requires)) in
+    let done : l.b-index ≡ a.count = omega (arith, c.loop-b-test.false, l.auto.b-index-end) in
+    l.invariant ∙ ap (λ n. are_zero n a.s.now a.i) done

@@ -1,13 +1,7 @@
--- `numbers::known::are_zero` meets its contract. The loop's invariant: the answer is that of the bytes passed and of those left.
-use mathlib.Core.Path.{◌≡◌}
-use mathlib.Core.Bool.{◌&&◌}
-use Prim.Native.Nat.{◌+◌, ◌≤◌}
-use lib.ListN.{length}
+-- `numbers::known::are_zero`: so far it is the answer for the bytes passed.
+use Rattle.std.proofs.Common.{◌≡◌}
 use Rattle.numbers.specs.Bytes.{are_zero}
 use Rattle.numbers.proofs.known.are_zero.Given as goal
 
-abbrev pub invariant-loop-left : goal.invariant-loop-left
-invariant-loop-left l = (l.at + l.left ≤ length l.s) × (are_zero l.count l.s l.i ≡ l.all && are_zero l.left l.s l.at)
-
-abbrev pub decreases-loop-left : goal.decreases-loop-left
-decreases-loop-left l = l.left
+abbrev pub invariant-loop-b : goal.invariant-loop-b
+invariant-loop-b l = l.all ≡ are_zero l.b-index l.s l.i

@@ -1,22 +1,9 @@
 -- `choose` meets its contract: it asks the sample only for ranks that it has, and for a lower one first.
-use Rattle.std.proofs.Common.{◌*◌, ◌/◌, length, sym, refl, subst, inl, inr, arith}
-use Rattle.percentile.proofs.Sample.{rank_within, chosen_ranked, chosen_end}
+use Rattle.std.proofs.Common.{◌*◌, ◌/◌, length, sym, subst, inl, inr, arith}
+use Rattle.percentile.proofs.Sample.{chosen_ranked, chosen_end}
 use Rattle.percentile.specs.Ranks.{Ranked}
 use Rattle.percentile.proofs.few.choose.Goals as goal
 use Rattle.percentile.proofs.few.choose.Goals.{then-at-gt-MARGIN, else-at-gt-MARGIN}
-
-pub returns-then-list-le-FEW : goal.returns-then-list-le-FEW
-returns-then-list-le-FEW c = record { ordered = omega arith; low = inl refl; high = inl refl }
-
-pub overflow_cast-at-2 : goal.overflow_cast-at-2
-overflow_cast-at-2 c =
-    let start = c in
-    omega (arith, rank_within start.args.k (length start.args.list.now) start.requires.1)
-
-pub search-lo-requires : goal.search-lo-requires
-search-lo-requires c =
-    let start = c in
-    omega (arith, rank_within start.args.k (length start.args.list.now) start.requires.1)
 
 pub returns-then-at : goal.returns-then-at
 returns-then-at c =

@@ -10,7 +10,4 @@ between-requires c =
     omega (arith, count_between_lem start.args.p.lo start.args.p.hi start.args.list.now (omega arith))
 
 pub returns-then-s-lt-FEW : goal.returns-then-s-lt-FEW
-returns-then-s-lt-FEW c =
-    let start = c in
-    let over = c.if-k-s.false in
-    ranked_between _ _ _ _ _ _ start.requires.3.1.upto_lo over c.between.ensures
+returns-then-s-lt-FEW c = ranked_between _ _ _ _ _ _ c.requires.3.1.upto_lo c.if-s-k-3.true c.between.ensures

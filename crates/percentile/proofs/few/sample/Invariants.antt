@@ -1,10 +1,6 @@
 -- What stands at each turn of `sample`: what has been stored is listed.
-use Rattle.std.proofs.Common.{◌-◌}
 use Rattle.percentile.proofs.Sample.{Drawing}
 use Rattle.percentile.proofs.few.sample.Given as goal
 
 abbrev pub invariant-loop-i : goal.invariant-loop-i
 invariant-loop-i l = Drawing l.list l.initial.few l.few l.i
-
-abbrev pub decreases-loop-i : goal.decreases-loop-i
-decreases-loop-i l = 16384 - l.i

@@ -8,7 +8,7 @@ pub narrow-a-requires : goal.narrow-a-requires
 narrow-a-requires c = (
   search rules,
   c.requires.2,
-  front_start _ _ (2048 * 2 ^ 21) c.requires.0 c.requires.1 (λ i p. omega (arith, c.shared_slice_known-1.given i)),
+  front_start _ _ (2048 * 2 ^ 21) c.requires.0 c.requires.1 (λ i p. omega (arith, c.type_inv.list i)),
 )
 
 pub narrow-c-requires : goal.narrow-c-requires

@@ -10,14 +10,14 @@ pub overflow_add-t : goal.overflow_add-t
 overflow_add-t c =
     omega (
       arith,
-      c.loop-i.invariant.small c.slot-q.result,
+      c.loop-i.invariant.small c.slot.result,
       c.loop-i-test.true,
       c.requires.1,
     )
 
 pub loop-i-preserved : goal.loop-i-preserved
 loop-i-preserved c =
-    tallied_step _ _ _ _ _ _ c.loop-i-test.true c.loop-i.invariant c.slot-q.ensures
+    tallied_step _ _ _ _ _ _ c.loop-i-test.true c.loop-i.invariant c.slot.ensures
 
 pub returns : goal.returns
 returns c = tallied_end _ _ _ _ _ c.loop-i-test.false c.loop-i.invariant

@@ -1,7 +1,0 @@
--- `intervals::times` meets its contract: the product of two numbers of 32 bits fits 64.
-use Rattle.numbers.proofs.Products.{product_fits}
-use borrow.Author.Rules.{rules}
-use Rattle.intervals.proofs.times.Goals as goal
-
-pub overflow_mul-result : goal.overflow_mul-result
-overflow_mul-result c = record { fits = product_fits 32 (search rules) (search rules) }
