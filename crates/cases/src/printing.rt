@@ -1,6 +1,4 @@
 // What the programs print beside their own figures. What comes from the text is written as bytes, since it need not be UTF-8.
-use numbers::refusal;
-use numbers::refusal::Refusal;
 use std::io;
 
 // The bytes, and the end of the line.
@@ -13,9 +11,4 @@ pub fn line(rt: &impl Print, s: &[u8]) -> io::Result<()> {
 pub fn head(rt: &impl Print, s: &[u8]) -> io::Result<()> {
     rt.write_all(s)?;
     print!(rt; ":")
-}
-
-// A refusal: its number and its place.
-pub fn refused(rt: &impl Print, r: Refusal) -> io::Result<()> {
-    print!(rt; " refused {} {}", refusal::number(r.fault), r.place)
 }

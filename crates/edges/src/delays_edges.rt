@@ -1,7 +1,6 @@
 // Percentile delay and range: document 01's lines, and both sides of each limit. A line is the percentile, the range and the verdict
 // of each, or the refusal.
-use cases::{circuit, lines, printing};
-use delays::Outcome;
+use cases::{circuit, lines};
 use numbers::bytes;
 use std::io;
 
@@ -16,12 +15,12 @@ fn settings(case: &[u8]) -> [u8; 64] {
 
 fn show(rt: &impl Print, s: &[u8], list: &[u32]) -> io::Result<()> {
     match delays::delays(s, list) {
-        Outcome::Refused(r) => printing::refused(rt, r)?,
-        Outcome::Answered(f) => {
+        Ok(f) => {
             let met = u8::from(f.percentile_met);
             let within = u8::from(f.range_met);
             print!(rt; " {} {} {met}{within}", f.percentile, f.range)?;
         }
+        Err(r) => print!(rt; " refused {r}")?,
     }
     println!(rt)
 }

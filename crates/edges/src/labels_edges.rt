@@ -2,10 +2,9 @@
 // what each step of the running evaluator settles, by value: how many labels and which, on the loss track;
 // and then the same over an evaluator that is lent to each step, with each record once more, which is refused
 // and leaves it as it was.
-use cases::{circuit, lines, printing};
-use evaluator::{Answer, Evaluator, Started, Stepped, Told};
+use cases::{circuit, lines};
+use evaluator::{Answer, Evaluator};
 use labels::stretch;
-use labels::stretch::Labelled;
 use std::io;
 
 // Room for eight records, and for their labels.
@@ -17,7 +16,7 @@ const LABELS: usize = 16;
 fn show_labels(rt: &impl Print, s: &[u8], records: &[u8]) -> io::Result<()> {
     let mut out = [9u8; LABELS];
     match stretch::labels(s, records, &mut out, 0) {
-        Labelled::Written => {
+        Ok(()) => {
             for track in 0..2 {
                 print!(rt; " ")?;
                 for label in out.iter().skip(track).step_by(2).take(records.len() / 48) {
@@ -25,7 +24,7 @@ fn show_labels(rt: &impl Print, s: &[u8], records: &[u8]) -> io::Result<()> {
                 }
             }
         }
-        Labelled::Refused(r) => printing::refused(rt, r)?,
+        Err(r) => print!(rt; " refused {r}")?,
     }
     Ok(())
 }
@@ -39,11 +38,11 @@ fn show_settled(rt: &impl Print, answer: Answer) -> io::Result<()> {
 fn show_steps(rt: &impl Print, mut e: Evaluator, records: &[u8]) -> io::Result<()> {
     for record in records.chunks_exact(48) {
         match evaluator::step(e, record) {
-            Stepped::Fed(next, answer) => {
+            Ok((next, answer)) => {
                 e = next;
                 show_settled(rt, answer)?;
             }
-            Stepped::Refused(r) => printing::refused(rt, r)?,
+            Err(r) => print!(rt; " refused {r}")?,
         }
     }
     Ok(())
@@ -52,8 +51,8 @@ fn show_steps(rt: &impl Print, mut e: Evaluator, records: &[u8]) -> io::Result<(
 // A step over a lent evaluator.
 fn lend(rt: &impl Print, e: &mut Evaluator, record: &[u8]) -> io::Result<()> {
     match evaluator::step_in(e, record) {
-        Told::Settled(answer) => show_settled(rt, answer),
-        Told::Refused(r) => printing::refused(rt, r),
+        Ok(answer) => show_settled(rt, answer),
+        Err(r) => print!(rt; " refused {r}"),
     }
 }
 
@@ -69,12 +68,12 @@ fn lend_all(rt: &impl Print, mut e: Evaluator, records: &[u8]) -> io::Result<()>
 fn show_evaluator(rt: &impl Print, s: &[u8], records: &[u8]) -> io::Result<()> {
     print!(rt; " |")?;
     match evaluator::start(s) {
-        Started::Ready(e) => {
+        Ok(e) => {
             show_steps(rt, e, records)?;
             print!(rt; " |")?;
             lend_all(rt, e, records)
         }
-        Started::Refused(r) => printing::refused(rt, r),
+        Err(r) => print!(rt; " refused {r}"),
     }
 }
 

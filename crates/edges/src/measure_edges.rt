@@ -1,6 +1,5 @@
 // The edges of `interval`: how many frames, which times, which delays.
-use cases::{circuit, lines, printing};
-use measure::Answer;
+use cases::{circuit, lines};
 use numbers::bytes;
 use std::io;
 
@@ -39,8 +38,8 @@ pub fn add(held: &mut [u8], case: &[u8]) {
 fn show(rt: &impl Print, frames: &[u8], number: u64, maintenance: u64) -> io::Result<()> {
     let mut out = [7u8; 50];
     match measure::interval(&settings(), frames, number, maintenance, &mut out, 1) {
-        Answer::Written => show_record(rt, &out[1..])?,
-        Answer::Refused(r) => printing::refused(rt, r)?,
+        Ok(()) => show_record(rt, &out[1..])?,
+        Err(r) => print!(rt; " refused {r}")?,
     }
     if matches!(out, [7, .., 7]) {
         print!(rt; ".")?;

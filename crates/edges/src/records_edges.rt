@@ -3,10 +3,7 @@
 ghost use Rattle.std.specs.Prelude.{◌≤◌};
 
 use cases::lines;
-use frames::FrameRead;
-use intervals::IntervalRead;
 use numbers::bytes;
-use settings::SettingsRead;
 use std::io;
 
 // The kinds of records. A record stands at the front of 128 bytes.
@@ -41,9 +38,9 @@ impl Kind {
 
     fn is_read(self, s: &[u8]) -> bool {
         match self {
-            Kind::Settings => matches!(settings::read(s), SettingsRead::Valid(_)),
-            Kind::Frame => matches!(frames::read(s), FrameRead::Valid(_)),
-            Kind::Interval => matches!(intervals::read(s), IntervalRead::Valid(_)),
+            Kind::Settings => settings::read(s).is_some(),
+            Kind::Frame => frames::read(s).is_some(),
+            Kind::Interval => intervals::read(s).is_some(),
         }
     }
 
