@@ -1,21 +1,20 @@
 // Stretches of one interval each, joined from left to right, from right to left and in pairs: each gives the bytes of the uncut stretch.
 use crate::stretches::Circuit;
-use cases::{circuit, lines, printing};
-use making::Made;
+use cases::{circuit, lines};
 use numbers::bytes;
 use std::io;
 
 // The join of two, or zeros, in place of the first.
 fn append(held: &mut [u8; 1024], next: [u8; 1024]) {
     let mut out = [0u8; 1024];
-    joining::join(held, &next, &mut out, 0);
+    let _ = joining::join(held, &next, &mut out, 0);
     *held = out;
 }
 
 // The same in place of the second.
 fn prepend(held: &mut [u8; 1024], before: [u8; 1024]) {
     let mut out = [0u8; 1024];
-    joining::join(&before, held, &mut out, 0);
+    let _ = joining::join(&before, held, &mut out, 0);
     *held = out;
 }
 
@@ -77,8 +76,8 @@ pub fn none(rt: &impl Print, case: &[u8]) -> io::Result<()> {
     let mut out = [0u8; 1024];
     rt.write_all(lines::rest(case, 1))?;
     match making::summary(&s, lines::get_u64(case, 4), b"", &mut out, 0) {
-        Made::Written => print!(rt; ": written")?,
-        Made::Refused(r) => printing::refused(rt, r)?,
+        Ok(()) => print!(rt; ": written")?,
+        Err(r) => print!(rt; " refused {r}")?,
     }
     println!(rt)
 }

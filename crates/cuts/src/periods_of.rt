@@ -2,8 +2,6 @@
 use crate::stretches::Circuit;
 use cases::{circuit, lines, printing};
 use numbers::bytes;
-use reports::Reported;
-use sets::Judged;
 use std::io;
 use tallies::Period;
 use verdicts::Verdicts;
@@ -23,8 +21,8 @@ fn show_period(rt: &impl Print, r: Period) -> io::Result<()> {
 
 pub fn show_report(rt: &impl Print, three: &[u8]) -> io::Result<()> {
     match reports::report(three) {
-        Reported::Answered(r) => show_period(rt, r),
-        Reported::Refused(r) => printing::refused(rt, r),
+        Ok(r) => show_period(rt, r),
+        Err(r) => print!(rt; " refused {r}"),
     }
 }
 
@@ -32,15 +30,15 @@ pub fn show_report(rt: &impl Print, three: &[u8]) -> io::Result<()> {
 fn show_verdicts(rt: &impl Print, v: Verdicts) -> io::Result<()> {
     print!(rt; " ")?;
     for verdict in [v.availability, v.composite, v.loss, v.mean, v.high, v.runs] {
-        print!(rt; "{}", verdicts::number(verdict))?;
+        print!(rt; "{}", u64::from(verdict))?;
     }
     Ok(())
 }
 
 pub fn show_set(rt: &impl Print, s: &[u8], pairs: u64, summaries: &[u8]) -> io::Result<()> {
     match sets::verdicts(s, pairs, summaries) {
-        Judged::Answered(v) => show_verdicts(rt, v),
-        Judged::Refused(r) => printing::refused(rt, r),
+        Ok(v) => show_verdicts(rt, v),
+        Err(r) => print!(rt; " refused {r}"),
     }
 }
 

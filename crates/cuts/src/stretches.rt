@@ -29,7 +29,7 @@ impl Circuit {
 
     // The summary of these records, at the start of `out`, if there is one.
     pub fn put_summary(&self, a: usize, b: usize, out: &mut [u8]) {
-        making::summary(&self.settings, a as u64, self.between(a, b), out, 0);
+        let _ = making::summary(&self.settings, a as u64, self.between(a, b), out, 0);
     }
 
     // The same into zeros.

@@ -1,9 +1,9 @@
 // What is printed: document 01's twelve lines, or why there are none.
-use files::{Answer, Concluded};
-use numbers::refusal;
+use files::Answer;
+use numbers::refusal::Refusal;
 use std::io;
 use tallies::Period;
-use verdicts::{Verdict, Verdicts};
+use verdicts::Verdicts;
 
 fn figures(rt: &impl Print, r: Period) -> io::Result<()> {
     let a = r.loss.available;
@@ -22,29 +22,21 @@ fn figures(rt: &impl Print, r: Period) -> io::Result<()> {
     )
 }
 
-fn word(v: Verdict) -> &'static str {
-    match v {
-        Verdict::NotMet => "not met",
-        Verdict::Met => "met",
-        Verdict::NotYet => "not yet",
-    }
-}
-
 fn verdicts(rt: &impl Print, v: Verdicts) -> io::Result<()> {
-    println!(rt; "availability {}", word(v.availability))?;
-    println!(rt; "composite {}", word(v.composite))?;
-    println!(rt; "loss {}", word(v.loss))?;
-    println!(rt; "mean {}", word(v.mean))?;
-    println!(rt; "high {}", word(v.high))?;
-    println!(rt; "runs {}", word(v.runs))
+    println!(rt; "availability {}", v.availability)?;
+    println!(rt; "composite {}", v.composite)?;
+    println!(rt; "loss {}", v.loss)?;
+    println!(rt; "mean {}", v.mean)?;
+    println!(rt; "high {}", v.high)?;
+    println!(rt; "runs {}", v.runs)
 }
 
-pub fn concluded(rt: &impl Print, c: Concluded) -> io::Result<()> {
-    match c {
-        Concluded::Answered(a) => {
+pub fn concluded(rt: &impl Print, concluded: Result<Answer, Refusal>) -> io::Result<()> {
+    match concluded {
+        Ok(a) => {
             figures(rt, a.period)?;
             verdicts(rt, a.verdicts)
         }
-        Concluded::Refused(r) => println!(rt; "refused {} {}", refusal::number(r.fault), r.place),
+        Err(r) => println!(rt; "refused {r}"),
     }
 }
