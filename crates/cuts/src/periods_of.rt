@@ -42,23 +42,12 @@ pub fn show_set(rt: &impl Print, s: &[u8], pairs: u64, summaries: &[u8]) -> io::
     }
 }
 
-// The three summaries of the letters, cut before the `a`-th and before the `b`-th interval.
-pub fn put_three(settings: [u8; 64], letters: &[u8], a: usize, b: usize, out: &mut [u8]) {
-    let circuit = Circuit::new(settings, letters);
-    let cuts = [(0, a), (a, b), (b, circuit.count)];
-    for ((from, to), summary) in cuts.into_iter().zip(out.chunks_exact_mut(1024)) {
-        circuit.put_summary(from, to, summary);
-    }
-}
-
 // n, p, letters, a and b: the report of the intervals from the `a`-th on to before the `b`-th, and its verdicts.
 pub fn line(rt: &impl Print, case: &[u8]) -> io::Result<()> {
     let s = circuit::settings_at(case, 1);
-    let letters = lines::word(case, 3);
+    let circuit = Circuit::new(s, lines::word(case, 3));
     let mut three = [0u8; 3072];
-    put_three(
-        s,
-        letters,
+    circuit.put_three(
         lines::get_usize(case, 4),
         lines::get_usize(case, 5),
         &mut three,
@@ -95,7 +84,8 @@ pub fn objective(rt: &impl Print, case: &[u8]) -> io::Result<()> {
 // The verdicts on all of the intervals.
 pub fn verdict_line(rt: &impl Print, s: [u8; 64], letters: &[u8]) -> io::Result<()> {
     let mut three = [0u8; 3072];
-    put_three(s, letters, 0, letters.len(), &mut three);
+    let circuit = Circuit::new(s, letters);
+    circuit.put_three(0, circuit.count, &mut three);
     show_set(rt, &s, 1, &three)?;
     println!(rt)
 }

@@ -21,8 +21,8 @@ pub fn two(rt: &impl Print, case: &[u8]) -> io::Result<()> {
     printing::head(rt, lines::rest(case, 2))?;
     let mut six = [0u8; 6144];
     for (k, three) in (2..).zip(six.chunks_exact_mut(3072)) {
-        let letters = lines::word(case, k);
-        periods_of::put_three(s, letters, 0, letters.len(), three);
+        let circuit = Circuit::new(s, lines::word(case, k));
+        circuit.put_three(0, circuit.count, three);
     }
     periods_of::show_set(rt, &s, 2, &six)?;
     println!(rt)

@@ -38,4 +38,12 @@ impl Circuit {
         self.put_summary(a, b, &mut out);
         out
     }
+
+    // The three summaries of all the records, cut before the `a`-th and before the `b`-th interval.
+    pub fn put_three(&self, a: usize, b: usize, out: &mut [u8]) {
+        let cuts = [(0, a), (a, b), (b, self.count)];
+        for ((from, to), summary) in cuts.into_iter().zip(out.chunks_exact_mut(1024)) {
+            self.put_summary(from, to, summary);
+        }
+    }
 }
