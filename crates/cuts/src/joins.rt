@@ -18,6 +18,7 @@ fn prepend(held: &mut [u8; 1024], before: [u8; 1024]) {
     *held = out;
 }
 
+// Each stretch of one interval behind what is held.
 fn from_left(circuit: &Circuit) -> [u8; 1024] {
     let mut held = circuit.summary(0, 0);
     for k in 0..circuit.count {
@@ -26,6 +27,7 @@ fn from_left(circuit: &Circuit) -> [u8; 1024] {
     held
 }
 
+// Each stretch of one interval before what is held.
 fn from_right(circuit: &Circuit) -> [u8; 1024] {
     let mut held = circuit.summary(circuit.count, circuit.count);
     for k in (0..circuit.count).rev() {

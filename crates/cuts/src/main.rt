@@ -10,7 +10,7 @@ mod stretches;
 use cases::{lines, printing};
 use std::io;
 
-// An enum of the cases would be a second list of them beside this one.
+// One case. An enum of the cases would be a second list of them beside this one.
 fn one(rt: &impl Print, case: &[u8]) -> io::Result<()> {
     match lines::letter(case, 0) {
         b't' => printing::line(rt, lines::rest(case, 1)),

@@ -6,6 +6,7 @@ use std::io;
 use tallies::Period;
 use verdicts::Verdicts;
 
+// The figures of a report.
 fn show_period(rt: &impl Print, r: Period) -> io::Result<()> {
     let a = r.loss.available;
     let c = r.composite;
@@ -19,6 +20,7 @@ fn show_period(rt: &impl Print, r: Period) -> io::Result<()> {
     print!(rt; " {} {} {}", c.available, c.unavailable, c.undecided)
 }
 
+// What the report on three summaries is.
 pub fn show_report(rt: &impl Print, three: &[u8]) -> io::Result<()> {
     match reports::report(three) {
         Ok(r) => show_period(rt, r),
@@ -35,6 +37,7 @@ fn show_verdicts(rt: &impl Print, v: Verdicts) -> io::Result<()> {
     Ok(())
 }
 
+// What the verdicts of so many pairs are.
 pub fn show_set(rt: &impl Print, s: &[u8], pairs: u64, summaries: &[u8]) -> io::Result<()> {
     match sets::verdicts(s, pairs, summaries) {
         Ok(v) => show_verdicts(rt, v),

@@ -10,6 +10,7 @@ pub struct Circuit {
 }
 
 impl Circuit {
+    // A circuit of the letters, by these settings.
     pub fn new(settings: [u8; 64], letters: &[u8]) -> Circuit {
         Circuit {
             settings,

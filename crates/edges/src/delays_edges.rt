@@ -13,6 +13,7 @@ fn settings(case: &[u8]) -> [u8; 64] {
     s
 }
 
+// What a list gives.
 fn show(rt: &impl Print, s: &[u8], list: &[u32]) -> io::Result<()> {
     match delays::delays(s, list) {
         Ok(f) => {

@@ -65,6 +65,7 @@ fn lend_all(rt: &impl Print, mut e: Evaluator, records: &[u8]) -> io::Result<()>
     Ok(())
 }
 
+// What both kinds of steps settle, from the start on.
 fn show_evaluator(rt: &impl Print, s: &[u8], records: &[u8]) -> io::Result<()> {
     print!(rt; " |")?;
     match evaluator::start(s) {

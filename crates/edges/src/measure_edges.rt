@@ -16,6 +16,7 @@ fn settings() -> [u8; 64] {
     s
 }
 
+// A frame into its 16 bytes.
 fn put_frame(frame: &mut [u8], time: u64, delay: u32, state: u8) {
     bytes::put_u64(frame, 0, time);
     bytes::put_u32(frame, 8, delay);
@@ -47,6 +48,7 @@ fn show(rt: &impl Print, frames: &[u8], number: u64, maintenance: u64) -> io::Re
     println!(rt)
 }
 
+// The fields of a record, in order.
 fn show_record(rt: &impl Print, record: &[u8]) -> io::Result<()> {
     print!(rt; ":")?;
     for at in [0, 4, 8, 12, 16, 20] {

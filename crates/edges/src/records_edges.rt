@@ -14,7 +14,7 @@ enum Kind {
     Interval,
 }
 
-// By the first letter.
+// A case names a kind by its first letter.
 impl From<u8> for Kind {
     fn from(letter: u8) -> Kind {
         match letter {
@@ -26,6 +26,7 @@ impl From<u8> for Kind {
 }
 
 impl Kind {
+    // How many bytes a record is.
     fn size(self) -> usize
         ensures { result ≤ 64 }
     {
@@ -36,6 +37,7 @@ impl Kind {
         }
     }
 
+    // Whether the bytes are a record of this kind.
     fn is_read(self, s: &[u8]) -> bool {
         match self {
             Kind::Settings => settings::read(s).is_some(),
@@ -50,6 +52,7 @@ impl Kind {
         print!(rt; "{}", u8::from(is_read))
     }
 
+    // Whether a whole record is read.
     fn show(self, rt: &impl Print, held: &[u8; 128]) -> io::Result<()> {
         self.show_front(rt, held, self.size())
     }

@@ -5,6 +5,7 @@ use std::io;
 use tallies::Period;
 use verdicts::Verdicts;
 
+// The six lines of a report.
 fn figures(rt: &impl Print, r: Period) -> io::Result<()> {
     let a = r.loss.available;
     let c = r.composite;
@@ -22,6 +23,7 @@ fn figures(rt: &impl Print, r: Period) -> io::Result<()> {
     )
 }
 
+// A line for each verdict.
 fn verdicts(rt: &impl Print, v: Verdicts) -> io::Result<()> {
     println!(rt; "availability {}", v.availability)?;
     println!(rt; "composite {}", v.composite)?;
@@ -31,6 +33,7 @@ fn verdicts(rt: &impl Print, v: Verdicts) -> io::Result<()> {
     println!(rt; "runs {}", v.runs)
 }
 
+// All that is said of the files.
 pub fn concluded(rt: &impl Print, concluded: Result<Answer, Refusal>) -> io::Result<()> {
     match concluded {
         Ok(a) => {
