@@ -38,7 +38,6 @@ use Rattle.periods.specs.Stretches.{held_if, first_of, after_of, label_of, perio
 use Rattle.periods.specs.declared.Stretch.{Stretch}
 use Rattle.reports.specs.Three as three
 use Rattle.verdicts.specs.Verdicts.{verdicts_of}
-use Rattle.verdicts.specs.declared.Verdicts.{Verdicts}
 use Rattle.sets.specs.Sets as sets
 use Rattle.answers.specs.Lines.{Line, line, Told, told, answered, told_of, first_line}
 use Rattle.answers.specs.Operations.{bad_settings, nanoseconds, wanted, ragged, bad_interval, not_next, interval_lines, frame_lines, delay_lines, bad_stretch, unlike, apart, three_lines, pair_lines, interval_refusals, interval_told, labels_refusals, labels_told, start_refusals, start_told, step_refusals, step_told, delays_refusals, delays_told, summary_refusals, summary_told, join_refusals, join_told, report_refusals, report_told, verdicts_refusals, verdicts_told}
@@ -49,6 +48,8 @@ use Rattle.delays.specs.declared.Figures.{Figures}
 use Rattle.tallies.specs.declared.Period.{Period}
 use Rattle.rule.specs.declared.Both.{Both}
 use Rattle.evaluator.specs.declared.Settled.{Settled}
+use Rattle.verdicts.specs.declared.PerObjective.{PerObjective}
+use Rattle.verdicts.specs.declared.Verdict.{Verdict}
 
 -- records in a sequence: the first fault is the first line that holds
 
@@ -392,13 +393,13 @@ report_answers_number s {r} e =
 
 module _ (v : Settings) (s : List ℕ) where
   set_by_pair :
-      (r : Result Period Refusal) (passed : List Verdicts) (rest : List (Result Period Refusal)) (t : Told) → ((passed : List Verdicts) → verdicts_told (sets.set_from v passed rest) ≡ t) →
+      (r : Result Period Refusal) (passed : List (PerObjective Verdict)) (rest : List (Result Period Refusal)) (t : Told) → ((passed : List (PerObjective Verdict)) → verdicts_told (sets.set_from v passed rest) ≡ t) →
       verdicts_told (sets.set_from v passed (r ∷ rest)) ≡ or_else r t
   unfolding sets.set_from or_else
   set_by_pair (Ok p) passed rest t h = h (passed ++ (verdicts_of v p ∷ []))
   set_by_pair (Err r) passed rest t h = refl
 
-  set_by_pairs : (n k : ℕ) (passed : List Verdicts) → verdicts_told (sets.set_from v passed (sets.pairs_from n v.label s k)) ≡ first_line (pair_lines n (Some v.label) s k)
+  set_by_pairs : (n k : ℕ) (passed : List (PerObjective Verdict)) → verdicts_told (sets.set_from v passed (sets.pairs_from n v.label s k)) ≡ first_line (pair_lines n (Some v.label) s k)
   unfolding sets.set_from sets.pairs_from pair_lines first_line three.three_at
   set_by_pairs zero k passed = refl
   set_by_pairs (suc n) k passed =
@@ -406,7 +407,7 @@ module _ (v : Settings) (s : List ℕ) where
       ∙ three_by_reads (Some v.label) (3 * k) (three.summary_at s (3 * k)) (three.summary_at s (3 * k + 1)) (three.summary_at s (3 * k + 2)) _ (pair_lines n (Some v.label) s (suc k)) refl
 
   set_unless :
-      (b : Bool) (f : Fault) (j : Result Verdicts Refusal) (xs : List Line) → verdicts_told j ≡ first_line xs → verdicts_told (sets.unless b f j) ≡ first_line (line (not b) (number_of f) 0 ∷ xs)
+      (b : Bool) (f : Fault) (j : Result (PerObjective Verdict) Refusal) (xs : List Line) → verdicts_told j ≡ first_line xs → verdicts_told (sets.unless b f j) ≡ first_line (line (not b) (number_of f) 0 ∷ xs)
   unfolding first_line sets.unless
   set_unless true f j xs h = h
   set_unless false f j xs h = refl
@@ -427,6 +428,6 @@ unfolding first_line
 verdicts_by_settings None n s = refl
 verdicts_by_settings (Some v) n s = set_by_number v s n
 
-pub verdicts_answers_number : (settings : List ℕ) (n : ℕ) (s : List ℕ) {r : (Result Verdicts Refusal)} → r ≡ sets.judged_of settings n s → verdicts_told r ≡ first_line (verdicts_refusals settings n s)
+pub verdicts_answers_number : (settings : List ℕ) (n : ℕ) (s : List ℕ) {r : (Result (PerObjective Verdict) Refusal)} → r ≡ sets.judged_of settings n s → verdicts_told r ≡ first_line (verdicts_refusals settings n s)
 unfolding verdicts_refusals sets.judged_of
 verdicts_answers_number settings n s e = ap verdicts_told e ∙ verdicts_by_settings (settings_of settings) n s

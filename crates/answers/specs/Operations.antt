@@ -20,9 +20,10 @@ use Rattle.delays.specs.declared.Figures.{Figures}
 use Rattle.periods.specs.declared.Stretch.{Stretch}
 use Rattle.tallies.specs.declared.Period.{Period}
 use Rattle.settings.specs.declared.LabelSettings.{LabelSettings}
-use Rattle.verdicts.specs.declared.Verdicts.{Verdicts}
 use Rattle.rule.specs.declared.Both.{Both}
 use Rattle.evaluator.specs.declared.Settled.{Settled}
+use Rattle.verdicts.specs.declared.PerObjective.{PerObjective}
+use Rattle.verdicts.specs.declared.Verdict.{Verdict}
 
 -- settings
 
@@ -226,6 +227,6 @@ unfoldable pub verdicts_refusals : List ℕ → ℕ → List ℕ → List Line
 verdicts_refusals settings n s =
     line (bad_settings (settings_of settings)) 1 0 ∷ line (not (leb 1 n && leb n pairs)) 9 0 ∷ line (not (eqb (length s) (n * 3072))) 2 0 ∷ pair_lines n (wanted (settings_of settings)) s 0
 
-abbrev pub verdicts_told : Result Verdicts Refusal → Told
+abbrev pub verdicts_told : Result (PerObjective Verdict) Refusal → Told
 verdicts_told (Ok v) = answered
 verdicts_told (Err r) = told_of r

@@ -51,9 +51,10 @@ module _ (settings : List ℕ) (first : ℕ) (s out : List ℕ) (at : ℕ) where
         no_number e a = owed (Err (refusal Fault.Field 0)) (rw (valid, whole, room, lt-ltb intervals first e)) a refl
 
         module _ (known : first ≤ intervals) where
-          pub not_sound : (r : Refusal) → gathered v.label first s ≡ Err r → Outcome settings first s out at (Err r) out
+          pub not_sound :
+              (r : Refusal) {answer : Result (Unit {0}) Refusal} → gathered v.label first s ≡ Err r → answer ≡ Err r → Outcome settings first s out at answer out
           unfolding made
-          not_sound r e = owed (Err r) (rw (valid, whole, room, le-ltb intervals first known) e) refl refl
+          not_sound r e a = owed (Err r) (rw (valid, whole, room, le-ltb intervals first known) e) a refl
 
           pub written :
               (x : Summary) {after : List ℕ} →

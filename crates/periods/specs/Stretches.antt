@@ -3,14 +3,14 @@ use Rattle.std.specs.Prelude.{◌≡◌, refl, List, ℕ, ◌-◌, Option, Some,
 use Rattle.settings.specs.declared.LabelSettings.{LabelSettings}
 use Rattle.intervals.specs.declared.Interval.{Interval}
 use Rattle.tallies.specs.declared.Period.{Period}
-use Rattle.tallies.specs.declared.Counts.{Counts}
-use Rattle.tallies.specs.declared.Tally.{Tally}
 use Rattle.tracks.specs.Tracks.{count_in}
 use Rattle.summaries.specs.Stored.{summary_of, summary_bytes}
 use Rattle.summaries.specs.Made.{made_of}
 use Rattle.periods.specs.Between.{between}
 use Rattle.periods.specs.declared.Stretch.{Stretch}
 use Rattle.summaries.specs.declared.Summary.{Summary}
+use Rattle.tallies.specs.declared.ByLabel.{ByLabel}
+use Rattle.tallies.specs.declared.Totals.{Totals}
 
 abbrev pub held_if : Option Summary → Option Stretch
 held_if (Some v) = Some (record { held = v })
@@ -37,7 +37,7 @@ made_stretch l first vs = record { held = made_of l first vs }
 pub made_bytes : LabelSettings → ℕ → List Interval → List ℕ
 made_bytes l first vs = summary_bytes (made_of l first vs)
 
-abbrev pub counts_of : Tally → Counts
+abbrev pub counts_of : ByLabel Totals → ByLabel ℕ
 counts_of t = record { available = t.available.count; unavailable = t.unavailable; undecided = t.undecided.count }
 
 -- the report of the middle one of three

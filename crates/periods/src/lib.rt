@@ -6,8 +6,9 @@ ghost use Rattle.periods.specs.Stretches.{stretch_of, first_of, after_of, label_
 ghost use Rattle.periods.specs.Between.{between, BetweenFits};
 
 use settings::LabelSettings;
-use summaries::{Summary, SummaryRead};
-use tallies::{Counts, Period, Tally};
+use runs::run::Lengths;
+use summaries::Summary;
+use tallies::{ByLabel, Period, Totals};
 use tracks::Track;
 
 // A valid summary. Those above read its numbers and label settings, and hand the rest on.
@@ -16,20 +17,12 @@ pub struct Stretch {
     pub held: Summary,
 }
 
-#[derive(Clone, Copy)]
-pub enum StretchRead {
-    Valid(Stretch),
-    Invalid,
-}
-
 // The summary in `s`, if it is 1,024 bytes and meets every rule.
-pub fn read(s: &[u8]) -> StretchRead
+pub fn read(s: &[u8]) -> Option<Stretch>
     ensures { result ≡ stretch_of s.now }
 {
-    let SummaryRead::Valid(v) = summaries::read(s) else {
-        return StretchRead::Invalid;
-    };
-    StretchRead::Valid(Stretch { held: v })
+    let held = summaries::read(s)?;
+    Some(Stretch { held })
 }
 
 // The number of its first interval.
@@ -54,12 +47,12 @@ pub fn label(s: Stretch) -> LabelSettings
 }
 
 // The tally of the middle one of three tracks, by the labels of all.
-fn between_of(n: u32, p: u32, a: Track, b: Track, c: Track) -> Tally
-    requires { BetweenFits n p a b c }
-    ensures { result ≡ between n p a b c }
+fn between_of(by: Lengths, a: Track, b: Track, c: Track) -> ByLabel<Totals>
+    requires { BetweenFits by.n by.p a b c }
+    ensures { result ≡ between by.n by.p a b c }
 {
-    let known = tracks::join(n, p, tracks::quiet(a), b);
-    tracks::whole(n, p, tracks::join(n, p, known, tracks::quiet(c)))
+    let known = tracks::join(by, tracks::quiet(a), b);
+    tracks::whole(by, tracks::join(by, known, tracks::quiet(c)))
 }
 
 // The report of the middle one of three.
@@ -70,27 +63,18 @@ pub fn period(left: Stretch, middle: Stretch, right: Stretch) -> Period
     let a = left.held;
     let b = middle.held;
     let c = right.held;
-    let l = b.label;
-    let loss_a = a.loss;
-    let loss_b = b.loss;
-    let loss_c = c.loss;
-    let composite_a = a.composite;
-    let composite_b = b.composite;
-    let composite_c = c.composite;
+    let by = Lengths {
+        n: b.label.n as u32,
+        p: b.label.p as u32,
+    };
     let length = b.after - b.first;
-    let loss = between_of(l.n as u32, l.p as u32, loss_a, loss_b, loss_c);
-    let composite = between_of(
-        l.n as u32,
-        l.p as u32,
-        composite_a,
-        composite_b,
-        composite_c,
-    );
+    let loss = between_of(by, a.loss, b.loss, c.loss);
+    let composite = between_of(by, a.composite, b.composite, c.composite);
     Period {
         length,
-        maintenance: length - tracks::count_in(loss_b),
+        maintenance: length - tracks::count_in(b.loss),
         loss,
-        composite: Counts {
+        composite: ByLabel {
             available: composite.available.count,
             unavailable: composite.unavailable,
             undecided: composite.undecided.count,

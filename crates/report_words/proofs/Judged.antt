@@ -13,7 +13,6 @@ use Rattle.numbers.specs.declared.refusal.Refusal.{Refusal}
 use Rattle.settings.specs.Settings.{settings_of}
 use Rattle.settings.specs.declared.Settings.{Settings}
 use Rattle.tallies.specs.declared.Period.{Period}
-use Rattle.verdicts.specs.declared.Verdicts.{Verdicts}
 use Rattle.reports.specs.Three as three
 use Rattle.reports.specs.Three.{report_of}
 use Rattle.sets.specs.Sets as sets
@@ -23,6 +22,8 @@ use Rattle.words.specs.Written.{over, written}
 use Rattle.report_words.specs.ReportList.{count_words, sum_words, composite_words, figure_words, verdict_words, report_told, report_word, report_words, ReportLeft, verdicts_told, verdicts_word, verdicts_words, VerdictsLeft}
 use Rattle.words.specs.Word.{word_of}
 use Rattle.words.proofs.Writing.{written_over}
+use Rattle.verdicts.specs.declared.PerObjective.{PerObjective}
+use Rattle.verdicts.specs.declared.Verdict.{Verdict}
 
 -- the counts, then the sums, then the composite track's counts are the report's words
 pub report_written :
@@ -58,7 +59,7 @@ module _ (s words : List ℕ) where
 -- each way out of `mip_verdicts`
 module _ (settings : List ℕ) (k : ℕ) (s words : List ℕ) where
   verdicts_left :
-      (o : Result Verdicts Refusal) (n : ℕ) (after : List ℕ) → verdicts_told settings k s (length words) ≡ o → n ≡ verdicts_word o → after ≡ verdicts_words o words → VerdictsLeft settings k s words n after
+      (o : Result (PerObjective Verdict) Refusal) (n : ℕ) (after : List ℕ) → verdicts_told settings k s (length words) ≡ o → n ≡ verdicts_word o → after ≡ verdicts_words o words → VerdictsLeft settings k s words n after
   verdicts_left o n after e w a = record { word = w ∙ sym (ap verdicts_word e); words = a ∙ sym (ap (λ z. verdicts_words z words) e) }
 
   pub verdicts_settings : (n : ℕ) → settings_of settings ≡ None → n ≡ word_of (refusal Fault.Settings 0) → VerdictsLeft settings k s words n words
@@ -97,7 +98,7 @@ module _ (settings : List ℕ) (k : ℕ) (s words : List ℕ) where
           verdicts_refused r n e w = verdicts_left (Err r) n words (verdicts_reached ∙ e) w refl
 
           pub verdicts_answered :
-              (v : Verdicts) (after : List ℕ) → judged_of settings k s ≡ Ok v → after ≡ over (verdict_words v) words → VerdictsLeft settings k s words 0 after
+              (v : PerObjective Verdict) (after : List ℕ) → judged_of settings k s ≡ Ok v → after ≡ over (verdict_words v) words → VerdictsLeft settings k s words 0 after
           verdicts_answered v after e a = verdicts_left (Ok v) 0 after (verdicts_reached ∙ e) refl a
 
 -- two results, with the words that they leave, that the contracts allow coincide

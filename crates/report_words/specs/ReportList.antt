@@ -4,11 +4,9 @@ use Rattle.numbers.specs.Limits.{pairs}
 use Rattle.numbers.specs.Refusals.{refusal}
 use Rattle.numbers.specs.declared.refusal.Fault.{Fault}
 use Rattle.settings.specs.Settings.{settings_of}
-use Rattle.tallies.specs.declared.Counts.{Counts}
 use Rattle.tallies.specs.declared.Period.{Period}
 use Rattle.tallies.specs.declared.Totals.{Totals}
 use Rattle.verdicts.specs.Verdicts.{verdict_number}
-use Rattle.verdicts.specs.declared.Verdicts.{Verdicts}
 use Rattle.reports.specs.Three as three
 use Rattle.reports.specs.Three.{three_at}
 use Rattle.sets.specs.Sets as sets
@@ -17,6 +15,9 @@ use Rattle.words.specs.Written.{over}
 use Rattle.words.specs.Word.{word_of}
 use Rattle.settings.specs.declared.Settings.{Settings}
 use Rattle.numbers.specs.declared.refusal.Refusal.{Refusal}
+use Rattle.tallies.specs.declared.ByLabel.{ByLabel}
+use Rattle.verdicts.specs.declared.PerObjective.{PerObjective}
+use Rattle.verdicts.specs.declared.Verdict.{Verdict}
 
 -- the fifteen figures of a report: counts, sums over the available intervals, and the counts of the composite track
 abbrev pub count_words : Period → List ℕ
@@ -33,14 +34,14 @@ count_words r =
 abbrev pub sum_words : Totals → List ℕ
 sum_words t = t.sent ∷ t.lost ∷ t.sum ∷ t.least ∷ t.most ∷ []
 
-abbrev pub composite_words : Counts → List ℕ
+abbrev pub composite_words : ByLabel ℕ → List ℕ
 composite_words c = c.available ∷ c.unavailable ∷ c.undecided ∷ []
 
 abbrev pub figure_words : Period → List ℕ
 figure_words r = count_words r ++ (sum_words r.loss.available ++ composite_words r.composite)
 
 -- the six verdicts by their numbers
-abbrev pub verdict_words : Verdicts → List ℕ
+abbrev pub verdict_words : PerObjective Verdict → List ℕ
 verdict_words v =
     verdict_number v.availability
     ∷ verdict_number v.composite
@@ -68,20 +69,20 @@ pub record ReportLeft (s before : List ℕ) (result : ℕ) (after : List ℕ) : 
   pub words : after ≡ report_words (report_told s (length before)) before
 
 -- `verdicts`, with ROOM for 6 words behind SETTINGS, PAIRS and LENGTH
-abbrev pub with_room : Option Settings → ℕ → List ℕ → ℕ → Result Verdicts Refusal
+abbrev pub with_room : Option Settings → ℕ → List ℕ → ℕ → Result (PerObjective Verdict) Refusal
 with_room None n s room = Err (refusal Fault.Settings 0)
 with_room (Some v) n s room =
     sets.unless (leb 1 n && leb n pairs) Fault.Pairs
     (sets.unless (eqb (length s) (n * 3072)) Fault.Length (sets.unless (leb 6 room) Fault.Room (set_from v [] (pairs_from n v.label s 0))))
 
-unfoldable pub verdicts_told : List ℕ → ℕ → List ℕ → ℕ → Result Verdicts Refusal
+unfoldable pub verdicts_told : List ℕ → ℕ → List ℕ → ℕ → Result (PerObjective Verdict) Refusal
 verdicts_told settings n s room = with_room (settings_of settings) n s room
 
-abbrev pub verdicts_word : Result Verdicts Refusal → ℕ
+abbrev pub verdicts_word : Result (PerObjective Verdict) Refusal → ℕ
 verdicts_word (Ok v) = 0
 verdicts_word (Err r) = word_of r
 
-abbrev pub verdicts_words : Result Verdicts Refusal → List ℕ → List ℕ
+abbrev pub verdicts_words : Result (PerObjective Verdict) Refusal → List ℕ → List ℕ
 verdicts_words (Ok v) words = over (verdict_words v) words
 verdicts_words (Err r) words = words
 

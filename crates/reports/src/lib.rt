@@ -2,46 +2,23 @@
 #![tactic(auto)]
 
 ghost use Rattle.std.specs.Prelude.{◌≡◌, ◌≤◌, eqb};
-ghost use Rattle.numbers.specs.Refusals.{refusal};
 ghost use Rattle.settings.specs.Settings.{same_label};
 ghost use Rattle.periods.specs.Stretches.{first_of, after_of, label_of, ThreeRead};
 ghost use Rattle.reports.specs.Three.{summary_at, suits, judged_three, three_at, report_of, places};
 
 use numbers::many;
 use numbers::refusal::{Fault, Refusal};
-use periods::{Stretch, StretchRead};
+use periods::Stretch;
 use settings::LabelSettings;
 use tallies::Period;
 
-#[derive(Clone, Copy)]
-pub enum Reported {
-    Answered(Period),
-    Refused(Refusal),
-}
-
-// The label settings that summaries have to have: any, or those of the settings given.
-#[derive(Clone, Copy)]
-pub enum Wanted {
-    Any,
-    These(LabelSettings),
-}
-
-fn refused(fault: Fault, place: usize) -> Reported
-    ensures { result ≡ Reported.Refused (refusal fault place) }
+// Whether a summary has the label settings wanted, where any are.
+fn suited(wanted: Option<LabelSettings>, a: Stretch) -> bool
+    ensures { result ≡ suits wanted (label_of a) }
 {
-    Reported::Refused(Refusal {
-        fault,
-        place: place as u64,
-    })
-}
-
-// Whether a summary has the label settings wanted.
-fn suited(w: Wanted, a: Stretch) -> bool
-    ensures { result ≡ suits w (label_of a) }
-{
-    match w {
-        Wanted::Any => true,
-        Wanted::These(l) => settings::same_label(periods::label(a), l),
+    match wanted {
+        None => true,
+        Some(l) => periods::label(a) == l,
     }
 }
 
@@ -49,7 +26,7 @@ fn suited(w: Wanted, a: Stretch) -> bool
 fn alike(a: Stretch, b: Stretch) -> bool
     ensures { result ≡ same_label (label_of a) (label_of b) }
 {
-    settings::same_label(periods::label(a), periods::label(b))
+    periods::label(a) == periods::label(b)
 }
 
 // Whether the first number is 0.
@@ -67,61 +44,69 @@ fn adjoining(a: Stretch, b: Stretch) -> bool
 }
 
 // The report of three valid summaries, the first of which stands at `base`: label settings first, then numbers.
-fn judge(w: Wanted, base: usize, a: Stretch, b: Stretch, c: Stretch) -> Reported
+#[tactic(auto, unfolding(numbers::specs::Limits::pairs))]
+fn judge(
+    wanted: Option<LabelSettings>,
+    base: usize,
+    a: Stretch,
+    b: Stretch,
+    c: Stretch,
+) -> Result<Period, Refusal>
     requires { (base ≤ places) × ThreeRead a b c }
-    ensures { result ≡ judged_three w base a b c }
+    ensures { result ≡ judged_three wanted base a b c }
 {
-    if !suited(w, a) {
-        return refused(Fault::Mismatch, base);
+    let first = base as u64;
+    if !suited(wanted, a) {
+        return Err(Fault::Mismatch.at(first));
     }
     if !alike(a, b) {
-        return refused(Fault::Mismatch, base + 1);
+        return Err(Fault::Mismatch.at(first + 1));
     }
     if !alike(b, c) {
-        return refused(Fault::Mismatch, base + 2);
+        return Err(Fault::Mismatch.at(first + 2));
     }
     if !from_zero(a) {
-        return refused(Fault::Order, base);
+        return Err(Fault::Order.at(first));
     }
     if !adjoining(a, b) {
-        return refused(Fault::Order, base + 1);
+        return Err(Fault::Order.at(first + 1));
     }
     if !adjoining(b, c) {
-        return refused(Fault::Order, base + 2);
+        return Err(Fault::Order.at(first + 2));
     }
-    Reported::Answered(periods::period(a, b, c))
+    Ok(periods::period(a, b, c))
 }
 
 // The summary that is the `k`-th record of `s`, if it is valid.
-fn summary_at(s: &[u8], k: usize) -> StretchRead
+fn summary_at(s: &[u8], k: usize) -> Option<Stretch>
     ensures { result ≡ summary_at s.now k }
 {
     periods::read(many::part(s, 1024, k))
 }
 
-// The report of the three summaries from `base` on.
-pub fn three_at(w: Wanted, s: &[u8], base: usize) -> Reported
+// The report of the three summaries from `base` on, under the label settings that are wanted, or under any.
+#[tactic(auto, unfolding(numbers::specs::Limits::pairs))]
+pub fn three_at(
+    wanted: Option<LabelSettings>,
+    s: &[u8],
+    base: usize,
+) -> Result<Period, Refusal>
     requires { base ≤ places }
-    ensures { result ≡ three_at w s.now base }
+    ensures { result ≡ three_at wanted s.now base }
 {
-    let StretchRead::Valid(a) = summary_at(s, base) else {
-        return refused(Fault::Field, base);
-    };
-    let StretchRead::Valid(b) = summary_at(s, base + 1) else {
-        return refused(Fault::Field, base + 1);
-    };
-    let StretchRead::Valid(c) = summary_at(s, base + 2) else {
-        return refused(Fault::Field, base + 2);
-    };
-    judge(w, base, a, b, c)
+    let first = base as u64;
+    let a = summary_at(s, base).ok_or(Fault::Field.at(first))?;
+    let b = summary_at(s, base + 1).ok_or(Fault::Field.at(first + 1))?;
+    let c = summary_at(s, base + 2).ok_or(Fault::Field.at(first + 2))?;
+    judge(wanted, base, a, b, c)
 }
 
 // The report of the middle one of three adjoining summaries, the first from 0.
-pub fn report(summaries: &[u8]) -> Reported
+pub fn report(summaries: &[u8]) -> Result<Period, Refusal>
     ensures { result ≡ report_of summaries.now }
 {
     if summaries.len() != 3072 {
-        return refused(Fault::Length, 0);
+        return Err(Fault::Length.at(0));
     }
-    three_at(Wanted::Any, summaries, 0)
+    three_at(None, summaries, 0)
 }

@@ -16,19 +16,20 @@ use Rattle.settings.proofs.SettingsRecord.{label_valid, same_label_self}
 use Rattle.labels.proofs.Placing.{read_label}
 use Rattle.verdicts.specs.Verdicts.{verdicts_of}
 use Rattle.verdicts.specs.Sets.{of_sets}
-use Rattle.verdicts.specs.declared.Verdicts.{Verdicts}
 use Rattle.verdicts.proofs.Taken.{verdicts_taken}
 use Rattle.reports.specs.Circuits.{Circuit, three_bytes, set_bytes, defined}
 use Rattle.reports.proofs.Defined.{Sound, size_three, three_defined}
 use Rattle.sets.specs.Sets.{pairs_from, set_from, judged_of, defined_verdicts}
 use Rattle.sets.proofs.Going.{gone_over}
+use Rattle.verdicts.specs.declared.PerObjective.{PerObjective}
+use Rattle.verdicts.specs.declared.Verdict.{Verdict}
 
 unfoldable pub AllSound : LabelSettings → List Circuit → Type 0
 AllSound l [] = Unit {0}
 AllSound l (x ∷ xs) = Sound l x × AllSound l xs
 
 set_by :
-    (v : Settings) → label_meets v.label ≡ true → (xs : List Circuit) → AllSound v.label xs → (front : List ℕ) (k : ℕ) → length front ≡ k * 3072 → (passed : List Verdicts) →
+    (v : Settings) → label_meets v.label ≡ true → (xs : List Circuit) → AllSound v.label xs → (front : List ℕ) (k : ℕ) → length front ≡ k * 3072 → (passed : List (PerObjective Verdict)) →
     set_from v passed (pairs_from (length xs) v.label (front ++ set_bytes v.label xs) k) ≡ Ok (of_sets (passed ++ map (λ x. verdicts_of v (defined v.label x)) xs))
 unfolding set_from pairs_from set_bytes AllSound
 set_by v valid [] sound front k e passed = ap (λ l. Ok (of_sets l)) (sym (append-nil passed))

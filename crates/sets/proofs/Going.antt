@@ -17,10 +17,11 @@ use Rattle.settings.specs.declared.Settings.{Settings}
 use Rattle.tallies.specs.declared.Period.{Period}
 use Rattle.verdicts.specs.Verdicts.{verdicts_of}
 use Rattle.verdicts.specs.Sets.{of_sets}
-use Rattle.verdicts.specs.declared.Verdicts.{Verdicts}
 use Rattle.verdicts.proofs.Gathering.{sets_more}
 use Rattle.reports.specs.Three.{three_at}
 use Rattle.sets.specs.Sets.{pairs_from, set_from, unless, judged_of}
+use Rattle.verdicts.specs.declared.PerObjective.{PerObjective}
+use Rattle.verdicts.specs.declared.Verdict.{Verdict}
 
 -- what is left at k of n
 
@@ -37,24 +38,24 @@ pairs_done n k l s h = let e : n - k ≡ 0 = omega arith in rw e
 
 module _ (v : Settings) (s : List ℕ) (n : ℕ) where
   -- the pairs before the k-th are passed, and `all` is what they come to
-  pub record Going (k : ℕ) (all : Verdicts) : Type 0 where
-    pub passed : List Verdicts
+  pub record Going (k : ℕ) (all : PerObjective Verdict) : Type 0 where
+    pub passed : List (PerObjective Verdict)
     pub kept : all ≡ of_sets passed
     pub most : k ≤ n
     pub left : set_from v [] (pairs_from n v.label s 0) ≡ set_from v passed (pairs_from (n - k) v.label s k)
 
-  pub going_start : (all : Verdicts) → all ≡ of_sets [] → Going 0 all
+  pub going_start : (all : PerObjective Verdict) → all ≡ of_sets [] → Going 0 all
   going_start all e =
       let f : n - 0 ≡ n = omega arith in
       record { passed = []; kept = e; most = omega arith; left = rw f refl }
 
-  module _ (k : ℕ) (all : Verdicts) (g : Going k all) where
+  module _ (k : ℕ) (all : PerObjective Verdict) (g : Going k all) where
     pub going_refused : (r : Refusal) → k < n → three_at (Some v.label) s (3 * k) ≡ Err r → set_from v [] (pairs_from n v.label s 0) ≡ Err r
     unfolding set_from
     going_refused r h e = g.left ∙ rw (pairs_next n k v.label s h, e)
 
     pub going_next :
-        (p : Period) (more : Verdicts) → k < n → three_at (Some v.label) s (3 * k) ≡ Ok p → more ≡ of_sets (all ∷ verdicts_of v p ∷ []) → Going (k + 1) more
+        (p : Period) (more : PerObjective Verdict) → k < n → three_at (Some v.label) s (3 * k) ≡ Ok p → more ≡ of_sets (all ∷ verdicts_of v p ∷ []) → Going (k + 1) more
     unfolding set_from
     going_next p more h e f =
         record {
@@ -94,5 +95,5 @@ module _ (settings : List ℕ) (n : ℕ) (s : List ℕ) where
       gone_over h = rw (valid, le-leb 1 n some, le-leb n pairs few, eq-eqb (length s) (n * 3072) h)
 
 -- two results that the contract allows are one
-pub verdicts_coincide : (settings : List ℕ) (n : ℕ) (s : List ℕ) (x y : Result Verdicts Refusal) → x ≡ judged_of settings n s → y ≡ judged_of settings n s → x ≡ y
+pub verdicts_coincide : (settings : List ℕ) (n : ℕ) (s : List ℕ) (x y : Result (PerObjective Verdict) Refusal) → x ≡ judged_of settings n s → y ≡ judged_of settings n s → x ≡ y
 verdicts_coincide settings n s x y p q = cc

@@ -17,13 +17,14 @@ use Rattle.settings.specs.declared.LabelSettings.{LabelSettings}
 use Rattle.settings.specs.declared.Settings.{Settings}
 use Rattle.tallies.specs.declared.Period.{Period}
 use Rattle.verdicts.specs.Verdicts.{verdicts_of}
-use Rattle.verdicts.specs.declared.Verdicts.{Verdicts}
 use Rattle.reports.specs.Three.{three_at}
 use Rattle.reports.proofs.Places.{at_place}
 use Rattle.sets.specs.Sets.{unless, pairs_from, set_from, with_settings, judged_of}
+use Rattle.verdicts.specs.declared.PerObjective.{PerObjective}
+use Rattle.verdicts.specs.declared.Verdict.{Verdict}
 
 set_place :
-    (n : ℕ) (v : Settings) (passed : List Verdicts) (l : LabelSettings) (s : List ℕ) (k : ℕ) (x : Refusal) → set_from v passed (pairs_from n l s k) ≡ Err x → x.place ≤ 3 * (k + n) + 2
+    (n : ℕ) (v : Settings) (passed : List (PerObjective Verdict)) (l : LabelSettings) (s : List ℕ) (k : ℕ) (x : Refusal) → set_from v passed (pairs_from n l s k) ≡ Err x → x.place ≤ 3 * (k + n) + 2
 unfolding set_from pairs_from
 set_place zero v passed l s k x e = let z : ◌≡◌ {A = ℕ} 0 1 = cc in absurd (omega arith)
 set_place (suc n) v passed l s k x e = by (three_at (Some l) s (3 * k)) refl (λ p. set_place n v (passed ++ (verdicts_of v p ∷ [])) l s (suc k) x) e
@@ -37,7 +38,7 @@ set_place (suc n) v passed l s k x e = by (three_at (Some l) s (3 * k)) refl (λ
         omega (arith, at_place (Some l) s (3 * k) y f)
     by (Ok p) f later g = omega (arith, later p g)
 
-unless_set : (t : Bool) (f : Fault) (m : ℕ) (j : Result Verdicts Refusal) (x : Refusal) → (t ≡ true → j ≡ Err x → x.place ≤ m) → unless t f j ≡ Err x → x.place ≤ m
+unless_set : (t : Bool) (f : Fault) (m : ℕ) (j : Result (PerObjective Verdict) Refusal) (x : Refusal) → (t ≡ true → j ≡ Err x → x.place ≤ m) → unless t f j ≡ Err x → x.place ≤ m
 unfolding unless
 unless_set true f m j x rest e = rest refl e
 unless_set false f m j x rest e = let q : 0 ≡ x.place = cc in omega arith

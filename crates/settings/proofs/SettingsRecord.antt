@@ -1,9 +1,9 @@
 -- Each rule of valid settings as a fact, and two label settings that pass as the same are equal.
 -- Each fact is its rule of the list, taken out by its place.
 -- Assumes nothing.
-use mathlib.Core.Path.{◌≡◌, refl, subst}
+use mathlib.Core.Path.{◌≡◌, refl, sym, subst, ◌∙◌}
 use mathlib.Core.Logic.{◌⊎◌, inl, inr}
-use mathlib.Core.Bool.{Bool, true, false, ◌&&◌, ◌||◌, not}
+use mathlib.Core.Bool.{Bool, true, false, ◌&&◌, ◌||◌, not, and_assoc}
 use mathlib.Core.List.{List}
 use Prim.Native.Nat.{ℕ, ◌≤◌, ◌<◌}
 use native.Mathlib.Omega.{arith}
@@ -115,3 +115,28 @@ pub same_label_self : (a : LabelSettings) → same_label a a ≡ true
 unfolding same_label same_fields
 same_label_self a =
     rw (eq-eqb a.length a.length refl, eq-eqb a.n a.n refl, eq-eqb a.p a.p refl, eq-eqb a.weights a.weights refl, eq-eqb a.c a.c refl, eq-eqb a.u a.u refl, eq-eqb a.dl a.dl refl, eq-eqb a.jt a.jt refl)
+
+-- the derived `==` and `!=` say the same, field by field
+
+abbrev pub derived_eq : LabelSettings → LabelSettings → Bool
+derived_eq a b =
+    eqb a.length b.length
+    && (eqb a.n b.n && (eqb a.p b.p && (eqb a.weights b.weights && (eqb a.c b.c && (eqb a.u b.u && (eqb a.dl b.dl && eqb a.jt b.jt))))))
+
+pub derived_same : (a b : LabelSettings) → derived_eq a b ≡ same_label a b
+unfolding same_label same_fields
+derived_same a b = simp and_assoc
+
+pub told_same : (a b : LabelSettings) (differ : Bool) → differ ≡ not (derived_eq a b) → differ ≡ false → same_label a b ≡ true
+told_same a b differ e f = sym (derived_same a b) ∙ not_false (derived_eq a b) (sym e ∙ f)
+  where
+    not_false : (x : Bool) → not x ≡ false → x ≡ true
+    not_false true e = refl
+    not_false false e = sym e
+
+pub told_other : (a b : LabelSettings) (differ : Bool) → differ ≡ not (derived_eq a b) → differ ≡ true → same_label a b ≡ false
+told_other a b differ e f = sym (derived_same a b) ∙ not_true (derived_eq a b) (sym e ∙ f)
+  where
+    not_true : (x : Bool) → not x ≡ true → x ≡ false
+    not_true true e = sym e
+    not_true false e = refl

@@ -3,11 +3,11 @@ use Rattle.joining.specs.Joining.{joined_of}
 use Rattle.joining.proofs.Judging.{loss_fits, composite_fits}
 use Rattle.joining.proofs.both.Goals as goal
 
-pub join-loss-requires : goal.join-loss-requires
-join-loss-requires c = loss_fits c.args.a c.args.b c.requires
+pub join-requires : goal.join-requires
+join-requires c = loss_fits c.args.a c.args.b c.requires
 
-pub join-composite-requires : goal.join-composite-requires
-join-composite-requires c = composite_fits c.args.a c.args.b c.requires
+pub join-requires-2 : goal.join-requires-2
+join-requires-2 c = composite_fits c.args.a c.args.b c.requires
 
 pub returns : goal.returns
 unfolding joined_of
@@ -19,6 +19,6 @@ returns c =
       first = a.first;
       after = b.after;
       label = a.label;
-      loss = c.join-loss.ensures i;
-      composite = c.join-composite.ensures i;
+      loss = c.join.ensures i;
+      composite = c.join-2.ensures i;
     }

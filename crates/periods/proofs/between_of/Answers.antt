@@ -7,18 +7,18 @@ use Rattle.periods.proofs.between_of.Goals as goal
 pub join-known-requires : goal.join-known-requires
 join-known-requires c =
     let a = c.args in
-    rw c.quiet.ensures (left_fits a.n a.p a.a a.b a.c c.requires)
+    rw c.quiet.ensures (left_fits a.by.n a.by.p a.a a.b a.c c.requires)
 
 pub join-requires : goal.join-requires
 join-requires c =
     let a = c.args in
-    rw (c.quiet-2.ensures, c.join-known.ensures, c.quiet.ensures) (right_fits a.n a.p a.a a.b a.c c.requires)
+    rw (c.quiet-2.ensures, c.join-known.ensures, c.quiet.ensures) (right_fits a.by.n a.by.p a.a a.b a.c c.requires)
 
 pub whole-requires : goal.whole-requires
 whole-requires c =
     let a = c.args in
     rw (c.join.ensures, c.quiet-2.ensures, c.join-known.ensures, c.quiet.ensures)
-    (all_fits a.n a.p a.a a.b a.c c.requires)
+    (all_fits a.by.n a.by.p a.a a.b a.c c.requires)
 
 pub returns : goal.returns
 unfolding between

@@ -3,8 +3,8 @@ use mathlib.Core.Path.{sym, ap, ◌∙◌}
 use Rattle.periods.specs.Stretches.{held_if, stretch_held}
 use Rattle.periods.proofs.read.Goals as goal
 
-pub returns-in_default : goal.returns-in_default
-returns-in_default c = sym (stretch_held c.args.s.now ∙ ap held_if (sym c.read.ensures ∙ c.in_default.is))
+pub returns-in_err-held : goal.returns-in_err-held
+returns-in_err-held c = rw c.from_residual.ensures (sym (stretch_held c.args.s.now ∙ ap held_if (sym c.read.ensures ∙ c.in_err-held.was)))
 
 pub returns : goal.returns
-returns c = sym (stretch_held c.args.s.now ∙ ap held_if (sym c.read.ensures ∙ c.in-Valid.is))
+returns c = sym (stretch_held c.args.s.now ∙ ap held_if (sym c.read.ensures ∙ c.in_ok-held.was))

@@ -5,7 +5,7 @@ use Rattle.reports.proofs.report.Goals as goal
 
 pub returns-then-summaries-ne3072 : goal.returns-then-summaries-ne3072
 unfolding report_of unless
-returns-then-summaries-ne3072 c = rw (c.refused.ensures, ne_eqb _ 3072 c.if-summaries-ne3072.true)
+returns-then-summaries-ne3072 c = rw (c.at.ensures, ne_eqb _ 3072 c.if-summaries-ne3072.true)
 
 pub returns : goal.returns
 unfolding report_of unless

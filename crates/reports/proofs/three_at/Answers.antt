@@ -1,40 +1,26 @@
 -- `reports::three_at` meets its contract: one law of `Judging` for each way out, and three that are read.
-use mathlib.Core.Path.{sym, ◌∙◌}
-use native.Mathlib.Omega.{arith}
-use Rattle.numbers.specs.Limits.{pairs}
+use mathlib.Core.Path.{ap, sym, ◌∙◌}
+use Rattle.std.specs.Prelude.{Err}
+use Rattle.numbers.proofs.Refused.{found, refused}
 use Rattle.reports.proofs.Judging.{bad_left, bad_middle, bad_right, all_read}
 use Rattle.reports.proofs.three_at.Goals as goal
 
-pub returns-in_default : goal.returns-in_default
-returns-in_default c =
-    let a = c.args in
-    c.refused.ensures ∙ sym (bad_left a.w a.s.now a.base (sym c.summary_at.ensures ∙ c.in_default.is))
+pub returns-in_err-a : goal.returns-in_err-a
+returns-in_err-a c = let a = c.args in
+    let out = refused (λ r. r) c.summary_at.result _ c.ok_or.result _ c.from_residual.result c.ok_or.ensures.value c.in_err-a.was c.from_residual.ensures in
+    out.1 ∙ ap Err c.at.ensures ∙ sym (bad_left a.wanted a.s.now a.base (sym c.summary_at.ensures ∙ out.0))
 
-pub overflow_add-base : goal.overflow_add-base
-unfolding pairs
-overflow_add-base c = omega (arith, c.requires)
+pub returns-in_err-b : goal.returns-in_err-b
+returns-in_err-b c = let a = c.args in
+    let out = refused (λ r. r) c.summary_at-2.result _ c.ok_or-2.result _ c.from_residual-in_err-b.result c.ok_or-2.ensures.value c.in_err-b.was c.from_residual-in_err-b.ensures in
+    out.1 ∙ ap Err c.at-2.ensures
+    ∙ sym (bad_middle a.wanted a.s.now a.base c.in_ok-a.a (sym c.summary_at.ensures ∙ found c.summary_at.result _ c.ok_or.result _ c.ok_or.ensures.value c.in_ok-a.was) (sym c.summary_at-2.ensures ∙ out.0))
 
-pub overflow_add-base-in_default-summary_at : goal.overflow_add-base-in_default-summary_at
-unfolding pairs
-overflow_add-base-in_default-summary_at c = omega (arith, c.requires)
-
-pub returns-in_default-summary_at : goal.returns-in_default-summary_at
-returns-in_default-summary_at c =
-    let a = c.args in
-    c.refused-in_default-summary_at.ensures ∙ sym (bad_middle a.w a.s.now a.base c.in-Valid.a (sym c.summary_at.ensures ∙ c.in-Valid.is) (sym c.summary_at-2.ensures ∙ c.in_default-summary_at.is))
-
-pub overflow_add-base-2 : goal.overflow_add-base-2
-unfolding pairs
-overflow_add-base-2 c = omega (arith, c.requires)
-
-pub overflow_add-base-in_default-summary_at-2 : goal.overflow_add-base-in_default-summary_at-2
-unfolding pairs
-overflow_add-base-in_default-summary_at-2 c = omega (arith, c.requires)
-
-pub returns-in_default-summary_at-2 : goal.returns-in_default-summary_at-2
-returns-in_default-summary_at-2 c =
-    let a = c.args in
-    c.refused-in_default-summary_at-2.ensures ∙ sym (bad_right a.w a.s.now a.base c.in-Valid.a (sym c.summary_at.ensures ∙ c.in-Valid.is) c.in-Valid-summary_at.b (sym c.summary_at-2.ensures ∙ c.in-Valid-summary_at.is) (sym c.summary_at-3.ensures ∙ c.in_default-summary_at-2.is))
+pub returns-in_err-c : goal.returns-in_err-c
+returns-in_err-c c = let a = c.args in
+    let out = refused (λ r. r) c.summary_at-3.result _ c.ok_or-3.result _ c.from_residual-in_err-c.result c.ok_or-3.ensures.value c.in_err-c.was c.from_residual-in_err-c.ensures in
+    out.1 ∙ ap Err c.at-3.ensures
+    ∙ sym (bad_right a.wanted a.s.now a.base c.in_ok-a.a (sym c.summary_at.ensures ∙ found c.summary_at.result _ c.ok_or.result _ c.ok_or.ensures.value c.in_ok-a.was) c.in_ok-b.b (sym c.summary_at-2.ensures ∙ found c.summary_at-2.result _ c.ok_or-2.result _ c.ok_or-2.ensures.value c.in_ok-b.was) (sym c.summary_at-3.ensures ∙ out.0))
 
 pub judge-requires : goal.judge-requires
 judge-requires c = (
@@ -43,13 +29,13 @@ judge-requires c = (
     left_bytes = _;
     middle_bytes = _;
     right_bytes = _;
-    left = sym c.summary_at.ensures ∙ c.in-Valid.is;
-    middle = sym c.summary_at-2.ensures ∙ c.in-Valid-summary_at.is;
-    right = sym c.summary_at-3.ensures ∙ c.in-Valid-summary_at-2.is;
+    left = sym c.summary_at.ensures ∙ found c.summary_at.result _ c.ok_or.result _ c.ok_or.ensures.value c.in_ok-a.was;
+    middle = sym c.summary_at-2.ensures ∙ found c.summary_at-2.result _ c.ok_or-2.result _ c.ok_or-2.ensures.value c.in_ok-b.was;
+    right = sym c.summary_at-3.ensures ∙ found c.summary_at-3.result _ c.ok_or-3.result _ c.ok_or-3.ensures.value c.in_ok-c.was;
   },
 )
 
 pub returns : goal.returns
-returns c =
-    let a = c.args in
-    c.judge.ensures ∙ sym (all_read a.w a.s.now a.base c.in-Valid.a (sym c.summary_at.ensures ∙ c.in-Valid.is) c.in-Valid-summary_at.b (sym c.summary_at-2.ensures ∙ c.in-Valid-summary_at.is) c.in-Valid-summary_at-2.c (sym c.summary_at-3.ensures ∙ c.in-Valid-summary_at-2.is))
+returns c = let a = c.args in
+    c.judge.ensures
+    ∙ sym (all_read a.wanted a.s.now a.base c.in_ok-a.a (sym c.summary_at.ensures ∙ found c.summary_at.result _ c.ok_or.result _ c.ok_or.ensures.value c.in_ok-a.was) c.in_ok-b.b (sym c.summary_at-2.ensures ∙ found c.summary_at-2.result _ c.ok_or-2.result _ c.ok_or-2.ensures.value c.in_ok-b.was) c.in_ok-c.c (sym c.summary_at-3.ensures ∙ found c.summary_at-3.result _ c.ok_or-3.result _ c.ok_or-3.ensures.value c.in_ok-c.was))
