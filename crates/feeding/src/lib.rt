@@ -7,13 +7,11 @@ ghost use Rattle.std.specs.Prelude.{◌≡◌, ◌+◌, ◌++◌, ◌<◌, ◌�
 ghost use Rattle.numbers.specs.Refusals.{refusal};
 ghost use Rattle.feeding.specs.Feeding.{Known, Ready, Growing, standing, grown, grown_by, begun, fed, filled, if_whole, finished_by};
 
-use gathering::Gathered;
 use numbers::refusal::{Fault, Refusal};
-use settings::SettingsRead;
 use summaries::Summary;
 use tracks::Track;
 
-// What the whole records so far say.
+// What the whole records so far say. Three cases, each with a name: an Option of a Result would name neither the settings nor the record.
 #[derive(Clone, Copy)]
 pub enum Held {
     // the settings are no settings
@@ -35,11 +33,7 @@ fn moved(r: Refusal, by: u32) -> Refusal
     requires { r.place + by < 2 ^ 64 }
     ensures { result ≡ refusal r.fault (r.place + by) }
 {
-    let fault = r.fault;
-    Refusal {
-        fault,
-        place: r.place + by as u64,
-    }
+    r.fault.at(r.place + by as u64)
 }
 
 // A summary from 0, grown by the records of `s` behind it, or the first of these that is at fault.
@@ -47,14 +41,9 @@ fn grow(v: Summary, s: &[u8]) -> Held
     requires { Known v }
     ensures { result ≡ grown v s.now }
 {
-    let l = v.label;
-    let made = gathering::gather(l, s, v.after);
-    match made {
-        Gathered::Good(x) => {
-            let all = joining::both(v, x);
-            Held::Sound(all)
-        }
-        Gathered::Bad(r) => Held::Faulty(moved(r, v.after)),
+    match gathering::gather(v.label, s, v.after) {
+        Ok(x) => Held::Sound(joining::both(v, x)),
+        Err(r) => Held::Faulty(moved(r, v.after)),
     }
 }
 
@@ -74,17 +63,16 @@ fn take_in(held: Held, s: &[u8]) -> Held
 pub fn start(settings: &[u8]) -> State
     ensures { result ≡ begun settings.now }
 {
-    let SettingsRead::Valid(v) = settings::read(settings) else {
+    let Some(v) = settings::read(settings) else {
         return State {
             held: Held::Unset,
             left: 0,
         };
     };
-    let l = v.label;
     let empty = Summary {
         first: 0,
         after: 0,
-        label: l,
+        label: v.label,
         loss: Track::Nothing,
         composite: Track::Nothing,
     };
@@ -140,32 +128,24 @@ pub fn feed(state: State, tail: &mut [u8], piece: &[u8]) -> State
     feed_whole(next, tail, &piece[room..])
 }
 
-fn bad(fault: Fault) -> Gathered
-    ensures { result ≡ Gathered.Bad (refusal fault 0) }
-{
-    Gathered::Bad(Refusal { fault, place: 0 })
-}
-
 // An answer, where no record has only begun.
-fn if_whole(left: usize, answer: Gathered) -> Gathered
+fn if_whole(left: usize, answer: Result<Summary, Refusal>) -> Result<Summary, Refusal>
     ensures { result ≡ if_whole left answer }
 {
     if left == 0 {
         return answer;
     }
-    bad(Fault::Length)
+    Err(Fault::Length.at(0))
 }
 
 // What all the bytes say: the settings' refusal, then that of a length that is no whole number of records, then that of the first record
 // at fault; else the summary.
-pub fn finish(state: State) -> Gathered
+pub fn finish(state: State) -> Result<Summary, Refusal>
     ensures { result ≡ finished_by state.held state.left }
 {
-    let held = state.held;
-    let left = state.left;
-    match held {
-        Held::Unset => bad(Fault::Settings),
-        Held::Sound(v) => if_whole(left, Gathered::Good(v)),
-        Held::Faulty(r) => if_whole(left, Gathered::Bad(r)),
+    match state.held {
+        Held::Unset => Err(Fault::Settings.at(0)),
+        Held::Sound(v) => if_whole(state.left, Ok(v)),
+        Held::Faulty(r) => if_whole(state.left, Err(r)),
     }
 }

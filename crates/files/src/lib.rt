@@ -8,10 +8,9 @@ ghost use Rattle.feeding.specs.Feeding.{Known, Growing, finished_by};
 ghost use Rattle.files.specs.Files.{stretch, alone_of, answer_of, Judging, concluded_by};
 
 use feeding::State;
-use gathering::Gathered;
 use numbers::refusal::{Fault, Refusal};
 use periods::Stretch;
-use settings::{LabelSettings, Settings, SettingsRead};
+use settings::{LabelSettings, Settings};
 use summaries::Summary;
 use tallies::Period;
 use tracks::Track;
@@ -21,12 +20,6 @@ use verdicts::Verdicts;
 pub struct Answer {
     pub period: Period,
     pub verdicts: Verdicts,
-}
-
-#[derive(Clone, Copy)]
-pub enum Concluded {
-    Answered(Answer),
-    Refused(Refusal),
 }
 
 // No intervals, at a number.
@@ -67,19 +60,11 @@ fn judge(s: Settings, v: Summary) -> Answer
 }
 
 // What all that was fed of the file says, by the settings.
-pub fn conclude(settings: &[u8], state: State) -> Concluded
+pub fn conclude(settings: &[u8], state: State) -> Result<Answer, Refusal>
     requires { Growing state.held }
     ensures { result ≡ concluded_by (settings_of settings.now) (finished_by state.held state.left) }
 {
-    let SettingsRead::Valid(s) = settings::read(settings) else {
-        return Concluded::Refused(Refusal {
-            fault: Fault::Settings,
-            place: 0,
-        });
-    };
-    let made = feeding::finish(state);
-    match made {
-        Gathered::Good(v) => Concluded::Answered(judge(s, v)),
-        Gathered::Bad(r) => Concluded::Refused(r),
-    }
+    let s = settings::read(settings).ok_or(Fault::Settings)?;
+    let v = feeding::finish(state)?;
+    Ok(judge(s, v))
 }

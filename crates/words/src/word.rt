@@ -2,13 +2,12 @@
 ghost use Rattle.std.specs.Prelude.{◌≡◌, ◌^◌, ◌<◌};
 ghost use Rattle.words.specs.Word.{word_of};
 
-use numbers::refusal;
 use numbers::refusal::Refusal;
 
+// The word of a refusal.
 pub fn word(r: Refusal) -> u64
     requires { r.place < 2 ^ 32 }
     ensures { result ≡ word_of r }
 {
-    let f = r.fault;
-    refusal::number(f) * 4_294_967_296 + r.place
+    u64::from(r.fault) * 4_294_967_296 + r.place
 }

@@ -6,4 +6,4 @@ pub returns-then-left-eq0 : goal.returns-then-left-eq0
 returns-then-left-eq0 c = rw (eq-eqb _ _ c.if-left-eq0.true)
 
 pub returns : goal.returns
-returns c = rw (ne_eqb _ _ c.if-left-eq0.false) c.bad.ensures
+returns c = rw (ne_eqb _ _ c.if-left-eq0.false, c.at.ensures)

@@ -12,4 +12,4 @@ returns-in_default c = ap (λ r. record { held = begun_by r; left = 0 }) (sym (s
 pub returns : goal.returns
 unfolding begun made_of summary push_all
 returns c =
-    ap (λ r. record { held = begun_by r; left = 0 }) (sym (sym c.read.ensures ∙ c.in-Valid.is))
+    ap (λ r. record { held = begun_by r; left = 0 }) (sym (sym c.read.ensures ∙ c.in-Some.is))
