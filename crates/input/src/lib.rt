@@ -7,8 +7,9 @@ ghost use Rattle.std.specs.Prelude.{ℕ, ◌<◌, ◌≤◌, length, take, IfOk}
 use std::io;
 use std::io::{ErrorKind, Read};
 
-// Reads until `text` is full or the input ends, and says how many bytes that is. A read that a signal interrupts has read nothing. No reader of std does this without a
-// vector: `read_exact` does not say how many bytes came before the end, and `io::copy` into a slice promises nothing of its bytes.
+// Reads until `text` is full or the input ends, and says how many bytes that is. A read that a signal interrupts has read nothing. A proved loop has to end, and nothing
+// says that an input does: so it has as many turns as no run uses up. No reader of std does this without a vector: `read_exact` does not say how many bytes came before
+// the end, and `io::copy` into a slice promises nothing of its bytes.
 pub fn read_full<R: Read>(input: &mut R, text: &mut [u8]) -> io::Result<usize>
     ensures bound { IfOk result (λ n. n ≤ length text.new) }
     ensures bytes { IfOk result (λ n. Consumes (R.remaining input.old) (R.remaining input.new) (take n text.new)) }
