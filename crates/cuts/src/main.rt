@@ -10,31 +10,22 @@ mod stretches;
 use cases::{lines, printing};
 use std::io;
 
+// One case. An enum of the cases would be a second list of them beside this one.
 fn one(rt: &impl Print, case: &[u8]) -> io::Result<()> {
     match lines::letter(case, 0) {
-        b't' => printing::line(rt, lines::rest(case, 1))?,
-        b'j' => joins::line(rt, case)?,
-        b'n' => joins::none(rt, case)?,
-        b'r' => periods_of::line(rt, case)?,
-        b'o' => periods_of::objective(rt, case)?,
-        b's' => sets_of::two(rt, case)?,
-        b'p' => sets_of::pairs(rt, case)?,
-        b'w' => sets_of::places(rt, case)?,
-        b'f' => sets_of::fifteen_of_seventeen(rt, case)?,
-        _ => (),
+        b't' => printing::line(rt, lines::rest(case, 1)),
+        b'j' => joins::line(rt, case),
+        b'n' => joins::none(rt, case),
+        b'r' => periods_of::line(rt, case),
+        b'o' => periods_of::objective(rt, case),
+        b's' => sets_of::two(rt, case),
+        b'p' => sets_of::pairs(rt, case),
+        b'w' => sets_of::places(rt, case),
+        b'f' => sets_of::fifteen_of_seventeen(rt, case),
+        _ => Ok(()),
     }
-    Ok(())
-}
-
-fn run(rt: &impl Print, text: &[u8]) -> io::Result<()> {
-    for k in 0..lines::count(text) {
-        one(rt, lines::line(text, k))?;
-    }
-    Ok(())
 }
 
 fn main(rt: HostRuntime) -> io::Result<()> {
-    let mut text = [0u8; 8192];
-    let n = lines::read_full(&mut rt.reader(), &mut text)?;
-    run(&rt, &text[..n])
+    lines::each(&rt, |case| one(&rt, case))
 }

@@ -10,18 +10,12 @@ mod records_edges;
 use cases::{lines, printing};
 use std::io;
 
-// The bytes that are held once this case was read.
-fn next(held: [u8; 128], case: &[u8]) -> [u8; 128] {
+// One case, over the bytes that are held. An enum of the cases would be a second list of them beside this one.
+fn one(rt: &impl Print, held: &mut [u8; 128], case: &[u8]) -> io::Result<()> {
     match lines::letter(case, 0) {
-        b'c' => [0u8; 128],
+        b'c' => *held = [0u8; 128],
         b'p' => records_edges::put(held, case, 3),
         b'a' => measure_edges::add(held, case),
-        _ => held,
-    }
-}
-
-fn show(rt: &impl Print, held: [u8; 128], case: &[u8]) -> io::Result<()> {
-    match lines::letter(case, 0) {
         b't' => printing::line(rt, lines::rest(case, 1))?,
         b'l' => records_edges::lengths(rt, held, case)?,
         b'f' => records_edges::field(rt, held, case)?,
@@ -35,19 +29,7 @@ fn show(rt: &impl Print, held: [u8; 128], case: &[u8]) -> io::Result<()> {
     Ok(())
 }
 
-fn run(rt: &impl Print, text: &[u8]) -> io::Result<()> {
-    let mut held = [0u8; 128];
-    for k in 0..lines::count(text) {
-        let case = lines::line(text, k);
-        let more = next(held, case);
-        held = more;
-        show(rt, held, case)?;
-    }
-    Ok(())
-}
-
 fn main(rt: HostRuntime) -> io::Result<()> {
-    let mut text = [0u8; 8192];
-    let n = lines::read_full(&mut rt.reader(), &mut text)?;
-    run(&rt, &text[..n])
+    let mut held = [0u8; 128];
+    lines::each(&rt, |case| one(&rt, &mut held, case))
 }

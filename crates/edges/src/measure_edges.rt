@@ -1,7 +1,6 @@
 // The edges of `interval`: how many frames, which times, which delays.
-use cases::{circuit, lines, printing};
-use measure::Answer;
-use numbers::{bytes, many};
+use cases::{circuit, lines};
+use numbers::bytes;
 use std::io;
 
 // Room for one frame more than an interval takes.
@@ -17,99 +16,77 @@ fn settings() -> [u8; 64] {
     s
 }
 
-fn put_frame(frames: &mut [u8], k: usize, time: u64, delay: u32, state: u8) {
-    if k < 1_025 {
-        let at = 16 * k;
-        bytes::put_u64(frames, at, time);
-        bytes::put_u32(frames, at + 8, delay);
-        bytes::put_u8(frames, at + 12, state);
+// A frame into its 16 bytes.
+fn put_frame(frame: &mut [u8], time: u64, delay: u32, state: u8) {
+    bytes::put_u64(frame, 0, time);
+    bytes::put_u32(frame, 8, delay);
+    bytes::put_u8(frame, 12, state);
+}
+
+// Puts a frame: its place, time, delay and state.
+pub fn add(held: &mut [u8], case: &[u8]) {
+    if let Some(frame) = held.chunks_exact_mut(16).nth(lines::get_usize(case, 1)) {
+        put_frame(
+            frame,
+            lines::get_u64(case, 2),
+            lines::get_u32(case, 3),
+            lines::get_u8(case, 4),
+        );
     }
 }
 
-// Place, time, delay and state of a frame: the bytes with this frame.
-pub fn add(b: [u8; 128], case: &[u8]) -> [u8; 128] {
-    let mut r = b;
-    put_frame(
-        &mut r,
-        lines::get_usize(case, 1),
-        lines::get_u64(case, 2),
-        lines::get_u32(case, 3),
-        lines::get_u8(case, 4),
-    );
-    r
-}
-
-// As many frames as there is room for, a nanosecond apart, each with the largest delay.
-fn put_all(frames: &mut [u8]) {
-    for k in 0..1_025 {
-        put_frame(frames, k, k as u64, 4_000_000_000, 0);
-    }
-}
-
-// What the frames give as interval `number`.
+// What the frames give as interval `number`, and a point where the bytes before and behind the record are as they were.
 fn show(rt: &impl Print, frames: &[u8], number: u64, maintenance: u64) -> io::Result<()> {
-    let s = settings();
     let mut out = [7u8; 50];
-    let answer = measure::interval(&s, frames, number, maintenance, &mut out, 1);
-    show_answer(rt, answer, &out)
-}
-
-fn show_answer(rt: &impl Print, answer: Answer, out: &[u8]) -> io::Result<()> {
-    match answer {
-        Answer::Written => show_record(rt, out)?,
-        Answer::Refused(r) => printing::refused(rt, r)?,
+    match measure::interval(&settings(), frames, number, maintenance, &mut out, 1) {
+        Ok(()) => show_record(rt, &out[1..])?,
+        Err(r) => print!(rt; " refused {r}")?,
     }
-    show_ends(rt, out)
-}
-
-// A point where the bytes before and behind the record are as they were.
-fn show_ends(rt: &impl Print, out: &[u8]) -> io::Result<()> {
-    if bytes::get_u8(out, 0) == 7 {
-        if bytes::get_u8(out, 49) == 7 {
-            printing::text(rt, b".")?;
-        }
+    if matches!(out, [7, .., 7]) {
+        print!(rt; ".")?;
     }
-    printing::end(rt)
+    println!(rt)
 }
 
-fn show_u32(rt: &impl Print, out: &[u8], at: usize) -> io::Result<()> {
-    printing::number(rt, bytes::get_u32(out, at) as u64)
-}
-
-fn show_record(rt: &impl Print, out: &[u8]) -> io::Result<()> {
-    printing::text(rt, b":")?;
-    show_u32(rt, out, 1)?;
-    show_u32(rt, out, 5)?;
-    show_u32(rt, out, 9)?;
-    show_u32(rt, out, 13)?;
-    show_u32(rt, out, 17)?;
-    show_u32(rt, out, 21)?;
-    printing::number(rt, bytes::get_u64(out, 25))?;
-    show_u32(rt, out, 33)?;
-    show_u32(rt, out, 37)?;
-    printing::number(rt, bytes::get_u8(out, 41) as u64)
+// The fields of a record, in order.
+fn show_record(rt: &impl Print, record: &[u8]) -> io::Result<()> {
+    print!(rt; ":")?;
+    for at in [0, 4, 8, 12, 16, 20] {
+        print!(rt; " {}", bytes::get_u32(record, at))?;
+    }
+    print!(rt;
+        " {} {} {} {}",
+        bytes::get_u64(record, 24),
+        bytes::get_u32(record, 32),
+        bytes::get_u32(record, 36),
+        bytes::get_u8(record, 40)
+    )
 }
 
 // As many of the frames as the first word says.
 fn first<'a>(frames: &'a [u8], case: &[u8]) -> &'a [u8] {
-    many::part(frames, 16 * (lines::get_usize(case, 1) % 5_000), 0)
+    frames
+        .get(..16 * (lines::get_usize(case, 1) % 5_000))
+        .unwrap_or(&[])
 }
 
 // How many of the frames that are held, the interval's number, maintenance, and the case's name.
-pub fn interval(rt: &impl Print, b: [u8; 128], case: &[u8]) -> io::Result<()> {
-    printing::text(rt, lines::rest(case, 4))?;
+pub fn interval(rt: &impl Print, held: &[u8], case: &[u8]) -> io::Result<()> {
+    rt.write_all(lines::rest(case, 4))?;
     show(
         rt,
-        first(&b, case),
+        first(held, case),
         lines::get_u64(case, 2),
         lines::get_u64(case, 3),
     )
 }
 
-// How many of as many frames as there is room for, and the case's name.
+// How many of as many frames as there is room for, a nanosecond apart, each with the largest delay, and the case's name.
 pub fn many_frames(rt: &impl Print, case: &[u8]) -> io::Result<()> {
     let mut frames = [0u8; ROOM];
-    put_all(&mut frames);
-    printing::text(rt, lines::rest(case, 2))?;
+    for (time, frame) in (0..).zip(frames.chunks_exact_mut(16)) {
+        put_frame(frame, time, 4_000_000_000, 0);
+    }
+    rt.write_all(lines::rest(case, 2))?;
     show(rt, first(&frames, case), 0, 0)
 }

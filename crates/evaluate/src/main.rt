@@ -5,15 +5,14 @@
 mod output;
 mod reading;
 
-use reading::{Filled, Intervals};
 use std::io;
 use std::rt::Files;
 
 // The intervals, by the settings that were read.
 fn evaluate(rt: &(impl Files + Print), settings: &[u8]) -> io::Result<()> {
     match reading::all_intervals(rt, settings) {
-        Intervals::Missing => output::text(rt, b"no file intervals.rec\n"),
-        Intervals::Fed(state) => output::concluded(rt, files::conclude(settings, state)),
+        Ok(state) => output::concluded(rt, files::conclude(settings, state)),
+        Err(_) => println!(rt; "no file intervals.rec"),
     }
 }
 
@@ -21,7 +20,7 @@ fn main(rt: HostRuntime) -> io::Result<()> {
     // a byte more than settings are, so that a longer file shows
     let mut space = [0u8; 65];
     match reading::settings(&rt, &mut space) {
-        Filled::Failed => output::text(&rt, b"no file settings.rec\n"),
-        Filled::Bytes(n) => evaluate(&rt, &space[..n]),
+        Ok(n) => evaluate(&rt, &space[..n]),
+        Err(_) => println!(rt; "no file settings.rec"),
     }
 }
