@@ -14,9 +14,9 @@ ghost use Rattle.gathering.specs.Gathering.{gathered, onwards, toned, several_of
 use intervals::Interval;
 use labels::marks;
 use numbers::refusal::{Fault, Refusal};
+use rule::Both;
 use runs::middles::Middle;
 use runs::run;
-use rule::Both;
 use runs::run::{Edges, Lengths, Run};
 use settings::LabelSettings;
 use summaries::Summary;

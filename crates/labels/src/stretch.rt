@@ -51,7 +51,13 @@ fn leave(part: &mut [u8], k: usize, lane: usize, t: Track)
 }
 
 // Interval `k` on both lanes.
-fn settle_both(part: &mut [u8], k: usize, l: LabelSettings, t: Both<Track>, x: Counts) -> Both<Track>
+fn settle_both(
+    part: &mut [u8],
+    k: usize,
+    l: LabelSettings,
+    t: Both<Track>,
+    x: Counts,
+) -> Both<Track>
     requires { Settling l k t part.old }
     ensures { (result ≡ both_turned l t x) × (part.new ≡ both_settled part.old k l t x) }
 {
@@ -92,13 +98,7 @@ fn write_labels(l: LabelSettings, r: &[u8], part: &mut [u8])
 }
 
 // The label bytes of the `n` whole records of `r`, written at `at` of `out` if there is room and the records are sound.
-fn write_at(
-    l: LabelSettings,
-    r: &[u8],
-    n: usize,
-    out: &mut [u8],
-    at: usize,
-) -> Result<(), Refusal>
+fn write_at(l: LabelSettings, r: &[u8], n: usize, out: &mut [u8], at: usize) -> Result<(), Refusal>
     requires { (label_meets l ≡ true) × (n ≡ length r.now / 48) }
     ensures { outcome result out.new ≡ when_whole l r.now out.old at n }
 {

@@ -5,8 +5,8 @@ ghost use Rattle.std.specs.Prelude.{◌≡◌};
 ghost use Rattle.periods.specs.Stretches.{stretch_of, first_of, after_of, label_of, period_of, Known};
 ghost use Rattle.periods.specs.Between.{between, BetweenFits};
 
-use settings::LabelSettings;
 use runs::run::Lengths;
+use settings::LabelSettings;
 use summaries::Summary;
 use tallies::{ByLabel, Period, Totals};
 use tracks::Track;

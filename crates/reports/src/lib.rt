@@ -86,11 +86,7 @@ fn summary_at(s: &[u8], k: usize) -> Option<Stretch>
 
 // The report of the three summaries from `base` on, under the label settings that are wanted, or under any.
 #[tactic(auto, unfolding(numbers::specs::Limits::pairs))]
-pub fn three_at(
-    wanted: Option<LabelSettings>,
-    s: &[u8],
-    base: usize,
-) -> Result<Period, Refusal>
+pub fn three_at(wanted: Option<LabelSettings>, s: &[u8], base: usize) -> Result<Period, Refusal>
     requires { base ≤ places }
     ensures { result ≡ three_at wanted s.now base }
 {

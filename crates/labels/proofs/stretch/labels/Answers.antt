@@ -19,12 +19,17 @@ returns-in_err-n c =
     rw (out.1, ← c.read.ensures, found c.read.result _ c.ok_or.result _ c.ok_or.ensures.value c.in_ok-v.was, ← c.count.ensures, out.0)
 
 pub write_at-requires : goal.write_at-requires
-write_at-requires c =
-    (read_label _ c.in_ok-v.v (sym c.read.ensures ∙ found c.read.result _ c.ok_or.result _ c.ok_or.ensures.value c.in_ok-v.was),
-     counted _ 48 c.in_ok-n.n (sym c.count.ensures ∙ found c.count.result _ c.ok_or-2.result _ c.ok_or-2.ensures.value c.in_ok-n.was))
+write_at-requires c = (
+  read_label _ c.in_ok-v.v (sym c.read.ensures ∙ found c.read.result _ c.ok_or.result _ c.ok_or.ensures.value c.in_ok-v.was),
+  counted _ 48 c.in_ok-n.n (sym c.count.ensures ∙ found c.count.result _ c.ok_or-2.result _ c.ok_or-2.ensures.value c.in_ok-n.was),
+)
 
 pub returns : goal.returns
 unfolding labels_of
 returns c =
-    rw (← c.read.ensures, found c.read.result _ c.ok_or.result _ c.ok_or.ensures.value c.in_ok-v.was,
-        ← c.count.ensures, found c.count.result _ c.ok_or-2.result _ c.ok_or-2.ensures.value c.in_ok-n.was) c.write_at.ensures
+    rw (
+      ← c.read.ensures,
+      found c.read.result _ c.ok_or.result _ c.ok_or.ensures.value c.in_ok-v.was,
+      ← c.count.ensures,
+      found c.count.result _ c.ok_or-2.result _ c.ok_or-2.ensures.value c.in_ok-n.was,
+    ) c.write_at.ensures
