@@ -160,18 +160,23 @@ fn settled_by(count: u64, mark: bool) -> Settled
 }
 
 // The next interval fed to what an evaluator holds: the evaluator after it, and what it settled.
+#[tactic(auto, unfolding(crate::specs::Evaluators::fed_with, crate::specs::Evaluators::answer_of))]
 fn feed(h: Held, fed: u64, v: Interval) -> (Evaluator, Answer)
     requires { (label_meets h.label ≡ true) × (fed < intervals) × (h.loss.pending < h.label.n) × (h.composite.pending < h.label.n) }
     ensures { result ≡ (fed_with h fed v, answer_of h v) }
 {
     let l = h.label;
-    let m = marks::marks(l, v);
-    let a = rule::advance(l.n as u64, h.loss, m.loss);
-    let b = rule::advance(l.n as u64, h.composite, m.composite);
-    let next = held_by(l, fed + 1, a.track, b.track);
+    let n = l.n as u64;
+    let marks = marks::marks(l, v);
+    let held = Both {
+        loss: h.loss,
+        composite: h.composite,
+    };
+    let turned = held.zip_with(marks, |t, mark| rule::advance(n, t, mark));
+    let next = held_by(l, fed + 1, turned.loss.track, turned.composite.track);
     let answer = Both {
-        loss: settled_by(a.count, m.loss),
-        composite: settled_by(b.count, m.composite),
+        loss: settled_by(turned.loss.count, marks.loss),
+        composite: settled_by(turned.composite.count, marks.composite),
     };
     (next, answer)
 }
