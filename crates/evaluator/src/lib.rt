@@ -62,7 +62,7 @@ fn held_by(l: LabelSettings, fed: u64, loss: Track, composite: Track) -> Evaluat
     }
 }
 
-// A label as a word.
+// A label as a word of the C interface. A label is a `bool` here, so it has no `From` of its own.
 fn word_of(label: bool) -> u64
     ensures { result ≡ word_of label }
 {
@@ -77,7 +77,7 @@ pub struct Held {
     pub composite: Track,
 }
 
-// Whether the words of the label settings fit its fields.
+// Whether the words of the label settings fit its fields. One test for all: `try_from` on each word would be eight ways out with one law.
 fn fits(e: Evaluator) -> bool
     ensures { result ≡ fits_words e }
 {

@@ -18,12 +18,17 @@ pub fn both(a: Summary, b: Summary) -> Summary
         n: a.label.n as u32,
         p: a.label.p as u32,
     };
+    // locals, as a part of a struct that is handed on where it stands is copied once more
+    let left = a.loss;
+    let right = b.loss;
+    let before = a.composite;
+    let behind = b.composite;
     Summary {
         first: a.first,
         after: b.after,
         label: a.label,
-        loss: tracks::join(by, a.loss, b.loss),
-        composite: tracks::join(by, a.composite, b.composite),
+        loss: tracks::join(by, left, right),
+        composite: tracks::join(by, before, behind),
     }
 }
 

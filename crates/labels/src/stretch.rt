@@ -13,7 +13,7 @@ use numbers::{many, room};
 use rule::{Both, Counts, Track};
 use settings::LabelSettings;
 
-// A settled label as a byte.
+// A settled label as a byte of the C interface. A label is a `bool` here, so it has no `From` of its own.
 fn byte_of(label: bool) -> u8
     ensures { result ≡ label_byte (settled label) }
 {
@@ -97,7 +97,7 @@ fn write_labels(l: LabelSettings, r: &[u8], part: &mut [u8])
     leave_both(part, count, t);
 }
 
-// The label bytes of the `n` whole records of `r`, written at `at` of `out` if there is room and the records are sound.
+// The label bytes of the `n` whole records of `r` (as they were counted; taken from the length it would be counted twice), written at `at` of `out` if there is room and the records are sound.
 fn write_at(l: LabelSettings, r: &[u8], n: usize, out: &mut [u8], at: usize) -> Result<(), Refusal>
     requires { (label_meets l ≡ true) × (n ≡ length r.now / 48) }
     ensures { outcome result out.new ≡ when_whole l r.now out.old at n }

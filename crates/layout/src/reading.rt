@@ -42,7 +42,7 @@ fn figures_in(s: &[u8], at: usize) -> Figures
     }
 }
 
-// Edges of a form: 2 is solid.
+// Edges of a form: 2 is solid. It is a number of the record, and `Edges` is another crate's: no `From`.
 #[tactic(auto, unfolding(crate::specs::Reading::edges_in))]
 fn edges_in(form: u32, pre: u32, inner: u32, post: u32) -> Edges
     ensures { result ≡ edges_in form pre inner post }

@@ -1,4 +1,4 @@
-// A track put into bytes.
+// A track put into bytes. Each piece is put from a place on: a part lent for it would need a split of the slice, and a bound, for each of the eight.
 ghost use Rattle.std.specs.Prelude.{◌≡◌, ◌+◌, ◌≤◌, length};
 ghost use Rattle.std.proofs.lemmas.List.Edits.{sets};
 ghost use Rattle.layout.specs.Bytes.{load_bytes, figures_bytes, form_of, pre_of, inner_of, post_of, shape_bytes, run_bytes, label_word, middle_bytes, blank_run, piece_bytes, track_bytes};
@@ -36,7 +36,7 @@ fn put_figures(out: &mut [u8], at: usize, f: Figures)
     put_load(out, at + 8, f.load);
 }
 
-// The form of a run: 0 low, 1 high and split, 2 high and solid.
+// The form of a run: 0 low, 1 high and split, 2 high and solid. It is a number of the record, and `Edges` is another crate's: no `From`.
 fn form_of(mark: bool, e: Edges) -> u32
     ensures { result ≡ form_of mark e }
 {

@@ -28,7 +28,7 @@ pub struct Tally {
     pub delay: u32,
 }
 
-// The one of two that `b` says.
+// The one of two that `b` says. A function, so that a frame's figures are one expression and its proof has no branches.
 fn pick(b: bool, x: u32, y: u32) -> u32
     ensures { result ≡ cond b x y }
 {
@@ -95,7 +95,7 @@ fn finish(t: Tally, number: u32, maintenance: bool) -> Interval
     }
 }
 
-// The tally of the `n` frames in `s`, with times from `from` to before `to`, or the first fault among them.
+// The tally of the `n` frames in `s` (as they were counted: from the length it would be counted twice), with times from `from` to before `to`, or the first fault among them.
 fn take_frames(s: &[u8], n: usize, from: u64, to: u64, dl: u32, jt: u32) -> Result<Tally, Refusal>
     requires { (n ≤ frames) × (to < 2 ^ 63) }
     ensures { result ≡ taken_of dl jt nothing (frames_in from to 0 0 (reads_from n s.now 0)) }

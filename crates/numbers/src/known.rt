@@ -1,4 +1,5 @@
-// Little-endian numbers out of bytes and into bytes that the caller knows to be there: what `bytes` does, with no test of an index.
+// Little-endian numbers out of bytes and into bytes that the caller knows to be there: what `bytes` does, with no test of an index. The two
+// are no twins: they ask different things. And one function for u32 and u64 would need a trait, as `from_le_bytes` is each type's own.
 ghost use Rattle.std.specs.Prelude.{◌≡◌, ◌+◌, ◌≤◌, length};
 ghost use Rattle.std.proofs.lemmas.List.Edits.{sets};
 ghost use Rattle.numbers.specs.Bytes.{part, number_at, bytes_of, are_zero};

@@ -67,12 +67,19 @@ pub fn period(left: Stretch, middle: Stretch, right: Stretch) -> Period
         n: b.label.n as u32,
         p: b.label.p as u32,
     };
+    // locals, as a part of a struct that is handed on where it stands is copied once more
+    let loss_a = a.loss;
+    let loss_b = b.loss;
+    let loss_c = c.loss;
+    let composite_a = a.composite;
+    let composite_b = b.composite;
+    let composite_c = c.composite;
     let length = b.after - b.first;
-    let loss = between_of(by, a.loss, b.loss, c.loss);
-    let composite = between_of(by, a.composite, b.composite, c.composite);
+    let loss = between_of(by, loss_a, loss_b, loss_c);
+    let composite = between_of(by, composite_a, composite_b, composite_c);
     Period {
         length,
-        maintenance: length - tracks::count_in(b.loss),
+        maintenance: length - tracks::count_in(loss_b),
         loss,
         composite: ByLabel {
             available: composite.available.count,

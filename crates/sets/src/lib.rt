@@ -9,7 +9,7 @@ use numbers::refusal::{Fault, Refusal};
 use settings::Settings;
 use verdicts::Verdicts;
 
-// The verdicts of the first `n` pairs of `s`, or the first pair's refusal.
+// The verdicts of the first `n` pairs of `s` (the number is the caller's), or the first pair's refusal.
 fn of_pairs(v: Settings, s: &[u8], n: usize) -> Result<Verdicts, Refusal>
     requires { Gone v n }
     ensures { result ≡ set_from v [] (pairs_from n v.label s.now 0) }

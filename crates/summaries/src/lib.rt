@@ -56,10 +56,13 @@ fn tracks_meet(v: Summary) -> bool
         n: v.label.n as u32,
         p: v.label.p as u32,
     };
+    // locals, as a part of a struct that is handed on where it stands is copied once more
+    let loss = v.loss;
+    let composite = v.composite;
     let len = v.after.saturating_sub(v.first);
-    if track_rules::track_meets(by, len, v.loss) {
-        if track_rules::track_meets(by, len, v.composite) {
-            return tracks::count_in(v.loss) == tracks::count_in(v.composite);
+    if track_rules::track_meets(by, len, loss) {
+        if track_rules::track_meets(by, len, composite) {
+            return tracks::count_in(loss) == tracks::count_in(composite);
         }
     }
     false
@@ -85,10 +88,13 @@ pub fn put(part: &mut [u8], v: Summary)
     requires { length part.old ≡ 1024 }
     ensures { part.new ≡ summary_bytes v }
 {
+    // locals, as above
+    let loss = v.loss;
+    let composite = v.composite;
     known::put_u32(part, 0, v.first);
     known::put_u32(part, 4, v.after);
     settings::put_label(&mut part[8..32], v.label);
-    writing::put_track(part, 32, v.loss);
-    writing::put_track(part, 248, v.composite);
+    writing::put_track(part, 32, loss);
+    writing::put_track(part, 248, composite);
     known::put_zeros(part, 464, 560);
 }
