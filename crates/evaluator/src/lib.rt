@@ -31,7 +31,8 @@ pub struct Evaluator {
     pub composite_pending: u64,
 }
 
-// What a step settled on a track: how many labels, and which (1 available, 0 unavailable, 2 when none).
+// What a step settled on a track: how many labels, and which (1 available, 0 unavailable, 2 when none): the words that the C interface
+// gives (`settled_words`).
 #[derive(Clone, Copy)]
 pub struct Settled {
     pub count: u64,

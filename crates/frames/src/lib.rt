@@ -10,7 +10,7 @@ use numbers::{known, limits};
 pub struct Frame {
     // ingress time, in ns since the start of interval 0
     pub time: u64,
-    // in ns, 0 where the frame is lost
+    // in ns, 0 where the frame is lost; the fields are the record's (`frame_in`), so it is no Option
     pub delay: u32,
     pub lost: bool,
 }

@@ -23,7 +23,7 @@ pub struct Tally {
     pub sum: u64,
     pub least: u32,
     pub most: u32,
-    // whether the last frame was delivered, and its delay
+    // whether the last frame was delivered, and its delay: two fields, as an Option would part `add` into branches
     pub delivered: bool,
     pub delay: u32,
 }
