@@ -20,7 +20,7 @@ fn byte_of(label: bool) -> u8
     if label { 0 } else { 1 }
 }
 
-// Every second byte from `from` on, `count` of them, set to `x`.
+// Every second byte from `from` on, `count` of them, set to `x`. By places, as `part[from..]` would ask more: with none to set, `from` may be past the end.
 fn fill(part: &mut [u8], from: usize, count: usize, x: u8)
     requires { from + 2 * count ≤ length part.old + 1 }
     ensures { part.new ≡ strided part.old from count x }
