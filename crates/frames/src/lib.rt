@@ -16,6 +16,7 @@ pub struct Frame {
 }
 
 // The values that stand in 16 bytes.
+#[tactic(auto, unfolding(crate::specs::Frame::frame_in))]
 fn frame_in(s: &[u8]) -> Frame
     requires { length s.now ≡ 16 }
     ensures { result ≡ frame_in s.now }
@@ -28,6 +29,7 @@ fn frame_in(s: &[u8]) -> Frame
 }
 
 // The frame in `s`, if it is 16 bytes and meets every rule. The state and the spare bytes are one number, 0 or 1.
+#[tactic(auto, using(numbers::proofs::Words::flag_number), unfolding(crate::specs::Frame::frame_of, crate::specs::Frame::frame_rules, numbers::specs::Limits::largest_delay))]
 pub fn read(s: &[u8]) -> Option<Frame>
     ensures { result ≡ frame_of s.now }
 {

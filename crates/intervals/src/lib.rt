@@ -29,6 +29,7 @@ pub struct Interval {
 }
 
 // The values that stand in 48 bytes.
+#[tactic(auto, unfolding(crate::specs::Interval::interval_in))]
 fn interval_in(s: &[u8]) -> Interval
     requires { length s.now ≡ 48 }
     ensures { result ≡ interval_in s.now }
@@ -55,6 +56,7 @@ pub fn delivered(v: Interval) -> u32
 }
 
 // Whether the counts meet document 01's rules.
+#[tactic(auto, unfolding(crate::specs::Interval::counts_meet, crate::specs::Interval::count_rules, numbers::specs::Limits::intervals, numbers::specs::Limits::frames))]
 fn counts_meet(v: Interval) -> bool
     ensures { result ≡ counts_meet v }
 {
@@ -68,6 +70,7 @@ fn counts_meet(v: Interval) -> bool
 }
 
 // Whether the delays meet document 01's rules. With nothing delivered both products are 0, so that with most 0 the others are 0 too.
+#[tactic(auto, unfolding(crate::specs::Interval::delays_meet, crate::specs::Interval::delay_rules, crate::specs::Interval::no_delay_rules, numbers::specs::Limits::largest_delay))]
 fn delays_meet(v: Interval) -> bool
     ensures { result ≡ delays_meet v }
 {
@@ -80,6 +83,7 @@ fn delays_meet(v: Interval) -> bool
 }
 
 // The interval in `s`, if it is 48 bytes and meets every rule. Maintenance and the spare bytes are one word, 0 or 1.
+#[tactic(auto, using(numbers::proofs::Words::flag_number), unfolding(crate::specs::Interval::interval_of, crate::specs::Interval::interval_rules))]
 pub fn read(s: &[u8]) -> Option<Interval>
     ensures { result ≡ interval_of s.now }
 {
@@ -95,6 +99,7 @@ pub fn read(s: &[u8]) -> Option<Interval>
 }
 
 // The counts put at the start of `part`.
+#[tactic(auto, unfolding(crate::specs::Interval::count_bytes, numbers::specs::Bytes::bytes_of))]
 fn put_counts(part: &mut [u8], v: Interval)
     ensures { part.new ≡ sets part.old 0 (count_bytes v) }
 {
@@ -107,6 +112,7 @@ fn put_counts(part: &mut [u8], v: Interval)
 }
 
 // The delays, the maintenance flag and the spare bytes put behind the counts.
+#[tactic(auto, using(numbers::proofs::Refused::as_number, crate::proofs::IntervalRecord::delays_laid))]
 fn put_delays(part: &mut [u8], v: Interval)
     ensures { part.new ≡ sets part.old 24 (delay_bytes v) }
 {
@@ -117,6 +123,7 @@ fn put_delays(part: &mut [u8], v: Interval)
 }
 
 // The interval's 48 bytes put into `part`.
+#[tactic(auto, unfolding(crate::specs::Interval::interval_bytes, crate::specs::Interval::count_bytes, crate::specs::Interval::delay_bytes, numbers::specs::Bytes::bytes_of))]
 pub fn put(part: &mut [u8], v: Interval)
     ensures { part.new ≡ sets part.old 0 (interval_bytes v) }
 {
@@ -132,6 +139,7 @@ pub fn read_at(s: &[u8], k: usize) -> Option<Interval>
 }
 
 // Whether the whole records of `s` are valid and numbered consecutively from `first`; else the first that is not.
+#[tactic(auto, using(crate::proofs::Sequences::check_steps), unfolding(crate::specs::Sequence::intervals_in))]
 pub fn check(s: &[u8], first: u64) -> Result<(), Refusal>
     ensures { result ≡ checked first 0 (intervals_in s.now) }
 {

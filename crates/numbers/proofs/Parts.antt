@@ -21,10 +21,6 @@ pub record_missing : (s : List ℕ) (size k : ℕ) → 0 < size → length s / s
 unfolding record_at
 record_missing s size k some h = simp (lt-ltb 0 size some, le-ltb k (length s / size) h)
 
-pub record_sizeless : (s : List ℕ) (size k : ℕ) → size ≡ 0 → record_at s size k ≡ []
-unfolding record_at
-record_sizeless s size k none = rw none
-
 module _ {A : Type 0} (read : List ℕ → A) (size : ℕ) (s : List ℕ) where
   pub each_many : (n k : ℕ) → length (read_each read size n s k) ≡ n
   unfolding read_each

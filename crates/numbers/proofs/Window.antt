@@ -1,15 +1,13 @@
 -- Laws of the window of an output, for whoever lends it on. Each is the test's own meaning.
 -- Assumes nothing.
 use mathlib.Core.Path.{◌≡◌, ap, sym, ◌∙◌}
-use mathlib.Core.Bool.{true, false}
+use mathlib.Core.Bool.{true}
 use mathlib.Core.List.{List, ◌++◌, append-nil, append_assoc}
-use Prim.Native.Nat.{ℕ, ◌+◌, ◌-◌, ◌≤◌, ◌<◌}
+use Prim.Native.Nat.{ℕ, ◌+◌, ◌-◌, ◌≤◌}
 use native.Mathlib.Omega.{arith}
-use native.Mathlib.Decide.{dec_le}
 use lib.ListN.{length, take, drop, length-take, length-drop, drop_of_length-le}
 use lib.Seq.{sets, sets-eq, drop-drop}
-use lib.Dec.{leb}
-use borrow.Author.Tests.{leb-true, le-leb, lt-leb}
+use borrow.Author.Tests.{leb-true}
 use borrow.Rule.Slice.PartMut.{put_mid}
 use Rattle.numbers.specs.Bytes.{placed}
 use Rattle.numbers.specs.Room.{has_room}
@@ -17,20 +15,6 @@ use Rattle.numbers.specs.Room.{has_room}
 pub room_within : (len at size : ℕ) → has_room len at size ≡ true → at + size ≤ len
 unfolding has_room
 room_within len at size h = leb-true (at + size) len h
-
--- what code asks, with no sum that could wrap
-
-pub room_none : (len at size : ℕ) → len < size → has_room len at size ≡ false
-unfolding has_room
-room_none len at size h = lt-leb (at + size) len (omega arith)
-
-pub room_left : (len at size : ℕ) → size ≤ len → leb at (len - size) ≡ has_room len at size
-unfolding has_room
-room_left len at size h =
-    elim (dec_le (at + size) len) [
-      | yes q ↦ le-leb at (len - size) (omega arith) ∙ sym (le-leb (at + size) len q)
-      | no q ↦ lt-leb at (len - size) (omega arith) ∙ sym (lt-leb (at + size) len (omega arith))
-    ]
 
 -- a part that is written over whole
 pub put_whole : {A : Type 0} (i k : ℕ) (s bs : List A) → k ≡ length bs → i + k ≤ length s → put_mid i k s bs ≡ sets s i bs

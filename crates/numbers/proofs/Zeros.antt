@@ -1,38 +1,15 @@
--- Laws of bytes that are 0: one more byte is one more test, zeros put one behind the other are all of them put at once, and zeros are the bytes of 0.
+-- Laws of bytes that are 0: one more byte is one more test, and zeros are the bytes of 0.
 -- Assumes nothing.
-use mathlib.Core.Path.{◌≡◌, refl, ap, sym, ◌∙◌}
-use mathlib.Core.Bool.{Bool, true, ◌&&◌, and-true, and_assoc, and-eq-true_iff}
-use mathlib.Core.List.{List, [], ◌∷◌, ◌++◌}
-use Prim.Native.Nat.{ℕ, zero, suc, ◌+◌, ◌-◌, ◌<◌}
+use mathlib.Core.Path.{◌≡◌, refl, ap, sym}
+use mathlib.Core.Bool.{true, ◌&&◌, and-true, and_assoc, and-eq-true_iff}
+use mathlib.Core.List.{List, ◌∷◌}
+use Prim.Native.Nat.{ℕ, zero, suc, ◌+◌}
 use native.Mathlib.Omega.{arith}
 use native.Mathlib.Nat.{add-zero}
-use native.Mathlib.Numerals.{add-one}
-use lib.ListN.{get_or, set, replicate}
-use lib.Seq.{sets}
+use lib.ListN.{get_or, replicate}
 use lib.Dec.{eqb}
 use borrow.Author.Tests.{eqb-true}
 use Rattle.numbers.specs.Bytes.{are_zero, bytes_of, part}
-use Rattle.numbers.proofs.Numbers.{sets_append, length_bytes}
-
--- what a turn of a loop over the bytes does: `all` of those passed, then one more
-pub zero_next : (w : ℕ) (s : List ℕ) (i : ℕ) (all : Bool) → 0 < w → all && are_zero w s i ≡ (all && eqb (get_or s i 0) 0) && are_zero (w - 1) s (i + 1)
-unfolding are_zero
-zero_next zero s i all h = absurd (omega arith)
-zero_next (suc w) s i all h =
-    let e : i + 1 ≡ suc i = omega arith in
-    let d : suc w - 1 ≡ w = omega arith in
-    rw (e, d) (sym (and_assoc all (eqb (get_or s i 0) 0) (are_zero w s (suc i))))
-
-zeros_end : (k : ℕ) → bytes_of k 0 ++ (0 ∷ []) ≡ bytes_of (suc k) 0
-unfolding bytes_of
-zeros_end zero = refl
-zeros_end (suc k) = ap (λ (l : List ℕ). 0 ∷ l) (zeros_end k)
-
-pub zero_more : (l : List ℕ) (at k : ℕ) → set (sets l at (bytes_of k 0)) (at + k) 0 ≡ sets l at (bytes_of (k + 1) 0)
-zero_more l at k =
-    ap (λ n. set (sets l at (bytes_of k 0)) (at + n) 0) (sym (length_bytes k 0))
-    ∙ sym (sets_append (bytes_of k 0) (0 ∷ []) l at)
-    ∙ ap (sets l at) (zeros_end k ∙ ap (λ n. bytes_of n 0) (sym (add-one k)))
 
 -- zeros are the bytes of 0
 pub zero_bytes : (w : ℕ) (s : List ℕ) (i : ℕ) → are_zero w s i ≡ true → bytes_of w 0 ≡ part w s i

@@ -12,6 +12,7 @@ pub fn get_u8(s: &[u8], i: usize) -> u8
 }
 
 // The `N` bytes from `i` on.
+#[tactic(auto, unfolding(crate::specs::Bytes::part))]
 fn get<const N: usize>(s: &[u8], i: usize) -> [u8; N]
     ensures { result ≡ part N s.now i }
 {

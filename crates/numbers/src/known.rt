@@ -31,6 +31,7 @@ pub fn get_u64(s: &[u8], i: usize) -> u64
 }
 
 // Whether the `count` bytes from `i` on are 0.
+#[tactic(auto, unfolding(crate::specs::Bytes::are_zero))]
 pub fn are_zero(s: &[u8], i: usize, count: usize) -> bool
     requires { i + count ≤ length s.now }
     ensures { result ≡ are_zero count s.now i }
@@ -43,6 +44,7 @@ pub fn are_zero(s: &[u8], i: usize, count: usize) -> bool
 }
 
 // Bytes put from `i` on.
+#[tactic(auto, using(crate::proofs::Window::put_whole))]
 fn put<const N: usize>(out: &mut [u8], i: usize, all: [u8; N])
     requires { i + N ≤ length out.old }
     ensures { out.new ≡ sets out.old i all.entry }
@@ -69,6 +71,7 @@ pub fn put_u64(out: &mut [u8], i: usize, x: u64)
 }
 
 // As many zeros as `count` put from `i` on.
+#[tactic(auto, using(crate::proofs::Window::put_whole, crate::proofs::Zeros::zeros_replicated))]
 pub fn put_zeros(out: &mut [u8], i: usize, count: usize)
     requires { i + count ≤ length out.old }
     ensures { out.new ≡ sets out.old i (bytes_of count 0) }

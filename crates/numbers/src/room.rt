@@ -3,11 +3,9 @@ ghost use Rattle.std.specs.Prelude.{◌≡◌};
 ghost use Rattle.numbers.specs.Room.{has_room};
 
 // Whether the window lies inside the buffer. No sum of the two numbers is made, so that none can wrap.
+#[tactic(auto, unfolding(crate::specs::Room::has_room))]
 pub fn has_room(len: usize, at: usize, size: usize) -> bool
     ensures { result ≡ has_room len at size }
 {
-    if len < size {
-        return false;
-    }
-    at <= len - size
+    size <= len && at <= len - size
 }

