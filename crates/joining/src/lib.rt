@@ -10,6 +10,7 @@ use runs::run::Lengths;
 use summaries::Summary;
 
 // The summary of both stretches.
+#[tactic(auto, using(crate::proofs::Judging::loss_fits, crate::proofs::Judging::composite_fits), unfolding(crate::specs::Joining::joined_of))]
 pub fn both(a: Summary, b: Summary) -> Summary
     requires { Adjoining a b }
     ensures { result ≡ joined_of a b }
@@ -33,6 +34,7 @@ pub fn both(a: Summary, b: Summary) -> Summary
 }
 
 // The summary of two adjoining stretches, written into 1,024 bytes of `out` from `at` on, or the refusal that goes before all others.
+#[tactic(auto, using(crate::proofs::Judging::steps), unfolding(crate::specs::Joining::judged))]
 pub fn join(left: &[u8], right: &[u8], out: &mut [u8], at: usize) -> Result<(), Refusal>
     ensures { Outcome left.now right.now out.old at result out.new }
 {

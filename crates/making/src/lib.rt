@@ -7,6 +7,7 @@ use numbers::refusal::{Fault, Refusal};
 use numbers::{limits, many, room};
 
 // The summary of the records, written into 1,024 bytes of `out` from `at` on, or the refusal that goes before all others.
+#[tactic(auto, using(crate::proofs::Answering::steps), unfolding(crate::specs::Making::made, numbers::specs::Limits::intervals))]
 pub fn summary(
     settings: &[u8],
     first: u64,

@@ -12,6 +12,9 @@ use Rattle.numbers.specs.Rules.{all_met}
 use Rattle.numbers.proofs.Rules.{rule_met}
 use Rattle.settings.specs.Settings.{label_meets}
 use Rattle.track_rules.proofs.Meeting.{track_met}
+use Rattle.track_rules.specs.Meets.{track_meets}
+use Rattle.tracks.proofs.Serving.{count_valid}
+use Rattle.tracks.specs.declared.Track.{Track}
 use Rattle.tracks.specs.Tracks.{count_in}
 use Rattle.tracks.specs.Valid.{TrackValid}
 use Rattle.summaries.specs.Stored.{summary_in, header_rules, header_meets, track_rules, tracks_meet, summary_rules, summary_of, valid_if}
@@ -47,3 +50,7 @@ unfolding summary_of summary_rules
 summary_valid s v e =
     let r = taken_out (all_met (summary_rules s)) (summary_in s) v e in
     subst (λ w. SummaryValid w) r.1 (facts s (summary_in s) (rule_met (summary_rules s) 1 r.0) (rule_met (summary_rules s) 2 r.0))
+
+-- a track that meets its rules counts at most its length, so that its count fits
+pub count_of : (n p len : ℕ) (t : Track) → track_meets n p len t ≡ true → count_in t ≤ len
+count_of n p len t h = count_valid n p len t (track_met n p len t h)

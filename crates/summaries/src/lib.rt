@@ -21,6 +21,7 @@ pub struct Summary {
 }
 
 // The values that stand in 1,024 bytes.
+#[tactic(auto, unfolding(crate::specs::Stored::summary_in))]
 fn summary_in(s: &[u8]) -> Summary
     requires { length s.now ≡ 1024 }
     ensures { result ≡ summary_in s.now }
@@ -35,6 +36,7 @@ fn summary_in(s: &[u8]) -> Summary
 }
 
 // Whether the header, the words of both tracks and the spare bytes meet their rules.
+#[tactic(auto, unfolding(crate::specs::Stored::header_meets, crate::specs::Stored::header_rules, numbers::specs::Limits::intervals))]
 fn header_meets(s: &[u8], v: Summary) -> bool
     requires { length s.now ≡ 1024 }
     ensures { result ≡ header_meets s.now v }
@@ -49,6 +51,7 @@ fn header_meets(s: &[u8], v: Summary) -> bool
 }
 
 // Whether both tracks meet their rules, and count the same intervals.
+#[tactic(auto, using(crate::proofs::Validity::count_of), unfolding(crate::specs::Stored::tracks_meet, crate::specs::Stored::track_rules))]
 fn tracks_meet(v: Summary) -> bool
     ensures { result ≡ tracks_meet v }
 {
@@ -69,6 +72,7 @@ fn tracks_meet(v: Summary) -> bool
 }
 
 // The summary in `s`, if it is 1,024 bytes and meets every rule.
+#[tactic(auto, unfolding(crate::specs::Stored::summary_of, crate::specs::Stored::summary_rules))]
 pub fn read(s: &[u8]) -> Option<Summary>
     ensures { result ≡ summary_of s.now }
 {
@@ -84,6 +88,7 @@ pub fn read(s: &[u8]) -> Option<Summary>
 }
 
 // A summary's 1,024 bytes put into `part`.
+#[tactic(auto, using(crate::proofs::Placing::put_whole))]
 pub fn put(part: &mut [u8], v: Summary)
     requires { length part.old ≡ 1024 }
     ensures { part.new ≡ summary_bytes v }
