@@ -2,8 +2,9 @@
 -- Assumes nothing.
 use mathlib.Core.Path.{◌≡◌}
 use mathlib.Core.List.{List, [], ◌∷◌}
-use Prim.Native.Nat.{ℕ, suc, ◌+◌, ◌-◌, ◌≤◌, ◌<◌}
+use Prim.Native.Nat.{ℕ, suc, ◌+◌, ◌-◌, ◌/◌, ◌≤◌, ◌<◌}
 use native.Mathlib.Omega.{arith}
+use lib.ListN.{length}
 use borrow.Author.Tests.{eq-eqb, ne_eqb}
 use Rattle.std.specs.Prelude.{Some, None, Ok, Err}
 use Rattle.numbers.specs.Many.{record_at}
@@ -11,10 +12,14 @@ use Rattle.numbers.specs.Refusals.{refusal}
 use Rattle.numbers.specs.declared.refusal.Fault.{Fault}
 use Rattle.numbers.proofs.Parts.{each_next, each_done}
 use Rattle.intervals.specs.Interval.{interval_of}
-use Rattle.intervals.specs.Sequence.{reads_from, checked}
+use Rattle.intervals.specs.Sequence.{reads_from, intervals_in, checked}
 use Rattle.intervals.specs.declared.Interval.{Interval}
 
 -- what is left to read at k of n
+
+pub reads_all : (s : List ℕ) → intervals_in s ≡ reads_from (length s / 48 - 0) s 0
+unfolding intervals_in
+reads_all s = let e : length s / 48 - 0 ≡ length s / 48 = omega arith in rw e
 
 pub reads_next : (n k : ℕ) (s : List ℕ) → k < n → reads_from (n - k) s k ≡ interval_of (record_at s 48 k) ∷ reads_from (n - (k + 1)) s (k + 1)
 reads_next n k s h = each_next interval_of 48 s n k h

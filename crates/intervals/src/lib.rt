@@ -145,7 +145,9 @@ pub fn check(s: &[u8], first: u64) -> Result<(), Refusal>
 {
     let mut next = first;
     for k in 0..s.len() / 48 {
-        let v = read_at(s, k).ok_or(Fault::Field.at(k as u64))?;
+        let Some(v) = read_at(s, k) else {
+            return Err(Fault::Field.at(k as u64));
+        };
         let number = v.number as u64;
         if number != next {
             return Err(Fault::Order.at(k as u64));

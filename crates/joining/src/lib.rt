@@ -47,8 +47,12 @@ pub fn join(left: &[u8], right: &[u8], out: &mut [u8], at: usize) -> Result<(), 
     if !room::has_room(out.len(), at, 1024) {
         return Err(Fault::Room.at(0));
     }
-    let a = summaries::read(left).ok_or(Fault::Field.at(0))?;
-    let b = summaries::read(right).ok_or(Fault::Field.at(1))?;
+    let Some(a) = summaries::read(left) else {
+        return Err(Fault::Field.at(0));
+    };
+    let Some(b) = summaries::read(right) else {
+        return Err(Fault::Field.at(1));
+    };
     if a.label != b.label {
         return Err(Fault::Mismatch.at(1));
     }

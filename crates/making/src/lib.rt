@@ -17,7 +17,9 @@ pub fn summary(
 ) -> Result<(), Refusal>
     ensures { Outcome settings.now first intervals.now out.old at result out.new }
 {
-    let v = settings::read(settings).ok_or(Fault::Settings)?;
+    let Some(v) = settings::read(settings) else {
+        return Err(Fault::Settings.at(0));
+    };
     many::count(intervals.len(), 48).ok_or(Fault::Length)?;
     if !room::has_room(out.len(), at, 1024) {
         return Err(Fault::Room.at(0));
