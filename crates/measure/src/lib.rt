@@ -54,6 +54,7 @@ fn start() -> Tally
 }
 
 // One frame more.
+#[tactic(auto, using(numbers::proofs::Refused::as_number), unfolding(crate::specs::Running::added, crate::specs::Measured::apart, numbers::specs::Limits::frames, numbers::specs::Limits::largest_delay))]
 fn add(t: Tally, f: Frame, dl: u32, jt: u32) -> Tally
     requires { Small t × (t.sent < frames) }
     ensures { result ≡ added dl jt t f }
@@ -78,6 +79,7 @@ fn add(t: Tally, f: Frame, dl: u32, jt: u32) -> Tally
 }
 
 // The interval of what was taken.
+#[tactic(auto, unfolding(crate::specs::Running::finished))]
 fn finish(t: Tally, number: u32, maintenance: bool) -> Interval
     ensures { result ≡ finished number maintenance t }
 {
@@ -96,6 +98,7 @@ fn finish(t: Tally, number: u32, maintenance: bool) -> Interval
 }
 
 // The tally of the `n` frames in `s`, with times from `from` to before `to`, or the first fault among them.
+#[tactic(auto, using(crate::proofs::Taking::take_steps, frames::proofs::FrameRecord::frame_valid))]
 fn take_frames(s: &[u8], n: usize, from: u64, to: u64, dl: u32, jt: u32) -> Result<Tally, Refusal>
     requires { (n ≤ frames) × (to < 2 ^ 63) }
     ensures { result ≡ taken_of dl jt nothing (frames_in from to 0 0 (reads_from n s.now 0)) }
@@ -122,6 +125,7 @@ fn take_frames(s: &[u8], n: usize, from: u64, to: u64, dl: u32, jt: u32) -> Resu
 }
 
 // The interval of the `n` frames in `s`, or the first refusal that is left where there is room.
+#[tactic(auto, using(crate::proofs::Judging::judged_steps), unfolding(crate::specs::Outcome::judged_frames, numbers::specs::Limits::frames, numbers::specs::Limits::intervals))]
 fn judge(
     l: LabelSettings,
     s: &[u8],
@@ -148,6 +152,7 @@ fn judge(
 }
 
 // The interval record of the frames, written into 48 bytes of `out` from `at` on, or the refusal that goes before all others.
+#[tactic(auto, using(crate::proofs::Judging::written_whole), unfolding(crate::specs::Outcome::judged))]
 pub fn interval(
     settings: &[u8],
     frames: &[u8],
