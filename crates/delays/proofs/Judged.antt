@@ -81,14 +81,8 @@ module _ (v : Settings) (xs : List ℕ) where
       judged_answer d (d - m) h (omega (arith, w, count_le (λ x. leb x largest_delay) xs))
       (percentile_found v.percentile xs k d most asked found) (range_found v.percentile xs k d most asked found m e)
 
--- with settings that are read as v, or as invalid
-pub outcome_valid : (s xs : List ℕ) (v : Settings) → settings_of s ≡ Some v → judged v xs ≡ outcome s xs
-unfolding outcome
-outcome_valid s xs v e = rw e
-
-pub outcome_invalid : (s xs : List ℕ) → settings_of s ≡ None → Err (refusal Fault.Settings 0) ≡ outcome s xs
-unfolding outcome
-outcome_invalid s xs e = rw e
+-- what `judge` needs
+pub ruleset judged_steps = (judged_full, judged_field, judged_none, judged_found, least_under)
 
 -- the place of a refusal is that of a delay, so it is at most 1,000,000
 

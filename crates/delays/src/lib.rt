@@ -28,6 +28,7 @@ fn place_above(list: &[u32], largest: u32) -> usize
 }
 
 // How many delays must be at or below the percentile: the least k with pr × n ≤ 1,000,000 × k.
+#[tactic(auto, using(crate::proofs::Rounding::rank_meets, crate::proofs::Rounding::product_fits), unfolding(numbers::specs::Limits::delays))]
 fn rank(pr: u32, n: usize) -> u32
     requires { (1 ≤ pr) × (pr ≤ million) × (0 < n) × (n ≤ delays) }
     ensures { Rank pr n result }
@@ -49,6 +50,7 @@ fn answer(v: Settings, percentile: u32, range: u32) -> Figures
 }
 
 // What valid settings say of a list.
+#[tactic(auto, using(crate::proofs::Judged::judged_steps), unfolding(numbers::specs::Limits::delays, numbers::specs::Limits::largest_delay))]
 fn judge(v: Settings, list: &[u32]) -> Result<Figures, Refusal>
     requires { (1 ≤ v.percentile) × (v.percentile ≤ million) }
     ensures { result ≡ judged v list.now }
@@ -72,9 +74,12 @@ fn judge(v: Settings, list: &[u32]) -> Result<Figures, Refusal>
 
 // The percentile delay and the range of a list of delays, or the refusal: SETTINGS; FULL over 1,000,000 delays; FIELD at the
 // first delay above the largest.
+#[tactic(auto, using(settings::proofs::SettingsRecord::settings_valid), unfolding(crate::specs::Outcome::outcome))]
 pub fn delays(settings: &[u8], list: &[u32]) -> Result<Figures, Refusal>
     ensures { result ≡ outcome settings.now list.now }
 {
-    let v = settings::read(settings).ok_or(Fault::Settings)?;
+    let Some(v) = settings::read(settings) else {
+        return Err(Fault::Settings.at(0));
+    };
     judge(v, list)
 }

@@ -54,6 +54,7 @@ fn start() -> Tally
 }
 
 // One frame more.
+#[tactic(auto, using(numbers::proofs::Refused::as_number), unfolding(crate::specs::Running::added, crate::specs::Measured::apart, numbers::specs::Limits::frames, numbers::specs::Limits::largest_delay))]
 fn add(t: Tally, f: Frame, dl: u32, jt: u32) -> Tally
     requires { Small t × (t.sent < frames) }
     ensures { result ≡ added dl jt t f }
@@ -78,6 +79,7 @@ fn add(t: Tally, f: Frame, dl: u32, jt: u32) -> Tally
 }
 
 // The interval of what was taken.
+#[tactic(auto, unfolding(crate::specs::Running::finished))]
 fn finish(t: Tally, number: u32, maintenance: bool) -> Interval
     ensures { result ≡ finished number maintenance t }
 {
@@ -95,7 +97,9 @@ fn finish(t: Tally, number: u32, maintenance: bool) -> Interval
     }
 }
 
-// The tally of the `n` frames in `s` (as they were counted: from the length it would be counted twice), with times from `from` to before `to`, or the first fault among them.
+// The tally of the `n` frames in `s` (as they were counted: from the length it would be counted twice), with times from `from` to before `to`, or the first fault among
+// them.
+#[tactic(auto, using(crate::proofs::Taking::take_steps, frames::proofs::FrameRecord::frame_valid))]
 fn take_frames(s: &[u8], n: usize, from: u64, to: u64, dl: u32, jt: u32) -> Result<Tally, Refusal>
     requires { (n ≤ frames) × (to < 2 ^ 63) }
     ensures { result ≡ taken_of dl jt nothing (frames_in from to 0 0 (reads_from n s.now 0)) }
@@ -104,7 +108,9 @@ fn take_frames(s: &[u8], n: usize, from: u64, to: u64, dl: u32, jt: u32) -> Resu
     let mut earliest: u64 = 0;
     for k in 0..n {
         let place = k as u64;
-        let f = frames::read(many::part(s, 16, k)).ok_or(Fault::Field.at(place))?;
+        let Some(f) = frames::read(many::part(s, 16, k)) else {
+            return Err(Fault::Field.at(place));
+        };
         let time = f.time;
         if time < from {
             return Err(Fault::Outside.at(place));
@@ -122,6 +128,7 @@ fn take_frames(s: &[u8], n: usize, from: u64, to: u64, dl: u32, jt: u32) -> Resu
 }
 
 // The interval of the `n` frames in `s`, or the first refusal that is left where there is room.
+#[tactic(auto, using(crate::proofs::Judging::judged_steps), unfolding(crate::specs::Outcome::judged_frames, numbers::specs::Limits::frames, numbers::specs::Limits::intervals))]
 fn judge(
     l: LabelSettings,
     s: &[u8],
@@ -148,6 +155,7 @@ fn judge(
 }
 
 // The interval record of the frames, written into 48 bytes of `out` from `at` on, or the refusal that goes before all others.
+#[tactic(auto, using(crate::proofs::Judging::written_whole), unfolding(crate::specs::Outcome::judged))]
 pub fn interval(
     settings: &[u8],
     frames: &[u8],
@@ -158,7 +166,9 @@ pub fn interval(
 ) -> Result<(), Refusal>
     ensures { Outcome settings.now frames.now number maintenance out.old at result out.new }
 {
-    let v = settings::read(settings).ok_or(Fault::Settings)?;
+    let Some(v) = settings::read(settings) else {
+        return Err(Fault::Settings.at(0));
+    };
     let n = many::count(frames.len(), 16).ok_or(Fault::Length)?;
     if !room::has_room(out.len(), at, 48) {
         return Err(Fault::Room.at(0));

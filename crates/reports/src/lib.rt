@@ -91,9 +91,15 @@ pub fn three_at(wanted: Option<LabelSettings>, s: &[u8], base: usize) -> Result<
     ensures { result ≡ three_at wanted s.now base }
 {
     let first = base as u64;
-    let a = summary_at(s, base).ok_or(Fault::Field.at(first))?;
-    let b = summary_at(s, base + 1).ok_or(Fault::Field.at(first + 1))?;
-    let c = summary_at(s, base + 2).ok_or(Fault::Field.at(first + 2))?;
+    let Some(a) = summary_at(s, base) else {
+        return Err(Fault::Field.at(first));
+    };
+    let Some(b) = summary_at(s, base + 1) else {
+        return Err(Fault::Field.at(first + 1));
+    };
+    let Some(c) = summary_at(s, base + 2) else {
+        return Err(Fault::Field.at(first + 2));
+    };
     judge(wanted, base, a, b, c)
 }
 

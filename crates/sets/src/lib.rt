@@ -27,7 +27,9 @@ fn of_pairs(v: Settings, s: &[u8], n: usize) -> Result<Verdicts, Refusal>
 pub fn verdicts(settings: &[u8], pairs: u64, summaries: &[u8]) -> Result<Verdicts, Refusal>
     ensures { result ≡ judged_of settings.now pairs summaries.now }
 {
-    let v = settings::read(settings).ok_or(Fault::Settings)?;
+    let Some(v) = settings::read(settings) else {
+        return Err(Fault::Settings.at(0));
+    };
     if pairs < 1 {
         return Err(Fault::Pairs.at(0));
     }
