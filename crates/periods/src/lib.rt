@@ -18,6 +18,7 @@ pub struct Stretch {
 }
 
 // The summary in `s`, if it is 1,024 bytes and meets every rule.
+#[tactic(auto, using(crate::specs::Stretches::stretch_held))]
 pub fn read(s: &[u8]) -> Option<Stretch>
     ensures { result ≡ stretch_of s.now }
 {
@@ -26,6 +27,7 @@ pub fn read(s: &[u8]) -> Option<Stretch>
 }
 
 // The number of its first interval.
+#[tactic(auto, using(crate::specs::Stretches::first_held))]
 pub fn first(s: Stretch) -> u32
     ensures { result ≡ first_of s }
 {
@@ -33,6 +35,7 @@ pub fn first(s: Stretch) -> u32
 }
 
 // The number after its last.
+#[tactic(auto, using(crate::specs::Stretches::after_held))]
 pub fn after(s: Stretch) -> u32
     ensures { result ≡ after_of s }
 {
@@ -40,6 +43,7 @@ pub fn after(s: Stretch) -> u32
 }
 
 // Its label settings.
+#[tactic(auto, using(crate::specs::Stretches::label_held))]
 pub fn label(s: Stretch) -> LabelSettings
     ensures { result ≡ label_of s }
 {
@@ -47,6 +51,7 @@ pub fn label(s: Stretch) -> LabelSettings
 }
 
 // The tally of the middle one of three tracks, by the labels of all.
+#[tactic(auto, using(crate::proofs::Fits::right_fits, crate::proofs::Fits::all_fits), unfolding(crate::specs::Between::between))]
 fn between_of(by: Lengths, a: Track, b: Track, c: Track) -> ByLabel<Totals>
     requires { BetweenFits by.n by.p a b c }
     ensures { result ≡ between by.n by.p a b c }
@@ -56,6 +61,7 @@ fn between_of(by: Lengths, a: Track, b: Track, c: Track) -> ByLabel<Totals>
 }
 
 // The report of the middle one of three.
+#[tactic(auto, using(crate::specs::Stretches::period_held))]
 pub fn period(left: Stretch, middle: Stretch, right: Stretch) -> Period
     requires { Known left middle right }
     ensures { result ≡ period_of left middle right }

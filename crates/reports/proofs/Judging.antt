@@ -1,5 +1,4 @@
--- What three summaries give where each test has been made: one law for each way out. And what is known of three whose report is answered: they are valid, of equal label settings,
--- and adjoin, so that their report keeps to its bounds.
+-- What is known of three summaries whose report is answered: they are valid, of equal label settings, and adjoin, so that their report keeps to its bounds.
 -- Assumes nothing.
 use mathlib.Core.Path.{◌≡◌, refl, subst}
 use mathlib.Core.Bool.{Bool, true, false}
@@ -9,8 +8,7 @@ use native.Mathlib.Omega.{arith}
 use lib.Dec.{eqb}
 use lib.ListN.{length}
 use borrow.Author.Tests.{eqb-true}
-use Rattle.std.specs.Prelude.{Option, Some, None, Result, Ok, Err}
-use Rattle.numbers.specs.Refusals.{refusal}
+use Rattle.std.specs.Prelude.{Option, Some, None, Result, Ok}
 use Rattle.numbers.specs.declared.refusal.Fault.{Fault}
 use Rattle.settings.specs.Settings.{same_label}
 use Rattle.settings.proofs.SettingsRecord.{same_label_equal}
@@ -35,60 +33,19 @@ known_by a b c h p q e f =
       right_numbers = eqb-true (after_of b) (first_of c) f;
     }
 
--- each way out
+-- three that are read, and three that meet every test
 
-module _ (w : Option LabelSettings) (base : ℕ) (a b c : Stretch) where
-  pub unsuited : suits w (label_of a) ≡ false → judged_three w base a b c ≡ Err (refusal Fault.Mismatch base)
-  unfolding judged_three unless
-  unsuited h = rw h
+pub all_read :
+    (w : Option LabelSettings) (s : List ℕ) (base : ℕ) (a : Stretch) → summary_at s base ≡ Some a → (b : Stretch) → summary_at s (base + 1) ≡ Some b →
+    (c : Stretch) → summary_at s (base + 2) ≡ Some c → three_at w s base ≡ judged_three w base a b c
+unfolding three_at
+all_read w s base a left b middle c right = rw (left, middle, right)
 
-  module _ (suit : suits w (label_of a) ≡ true) where
-    pub unlike_middle : same_label (label_of a) (label_of b) ≡ false → judged_three w base a b c ≡ Err (refusal Fault.Mismatch (base + 1))
-    unfolding judged_three unless
-    unlike_middle h = rw (suit, h)
-
-    module _ (left : same_label (label_of a) (label_of b) ≡ true) where
-      pub unlike_right : same_label (label_of b) (label_of c) ≡ false → judged_three w base a b c ≡ Err (refusal Fault.Mismatch (base + 2))
-      unfolding judged_three unless
-      unlike_right h = rw (suit, left, h)
-
-      module _ (right : same_label (label_of b) (label_of c) ≡ true) where
-        pub late : eqb (first_of a) 0 ≡ false → judged_three w base a b c ≡ Err (refusal Fault.Order base)
-        unfolding judged_three unless
-        late h = rw (suit, left, right, h)
-
-        module _ (start : eqb (first_of a) 0 ≡ true) where
-          pub apart_middle : eqb (after_of a) (first_of b) ≡ false → judged_three w base a b c ≡ Err (refusal Fault.Order (base + 1))
-          unfolding judged_three unless
-          apart_middle h = rw (suit, left, right, start, h)
-
-          module _ (first : eqb (after_of a) (first_of b) ≡ true) where
-            pub apart_right : eqb (after_of b) (first_of c) ≡ false → judged_three w base a b c ≡ Err (refusal Fault.Order (base + 2))
-            unfolding judged_three unless
-            apart_right h = rw (suit, left, right, start, first, h)
-
-            pub adjoined : eqb (after_of b) (first_of c) ≡ true → judged_three w base a b c ≡ Ok (period_of a b c)
-            unfolding judged_three unless
-            adjoined h = rw (suit, left, right, start, first, h)
-
-module _ (w : Option LabelSettings) (s : List ℕ) (base : ℕ) where
-  pub bad_left : summary_at s base ≡ None → three_at w s base ≡ Err (refusal Fault.Field base)
-  unfolding three_at
-  bad_left h = rw h
-
-  module _ (a : Stretch) (left : summary_at s base ≡ Some a) where
-    pub bad_middle : summary_at s (base + 1) ≡ None → three_at w s base ≡ Err (refusal Fault.Field (base + 1))
-    unfolding three_at
-    bad_middle h = rw (left, h)
-
-    module _ (b : Stretch) (middle : summary_at s (base + 1) ≡ Some b) where
-      pub bad_right : summary_at s (base + 2) ≡ None → three_at w s base ≡ Err (refusal Fault.Field (base + 2))
-      unfolding three_at
-      bad_right h = rw (left, middle, h)
-
-      pub all_read : (c : Stretch) → summary_at s (base + 2) ≡ Some c → three_at w s base ≡ judged_three w base a b c
-      unfolding three_at
-      all_read c h = rw (left, middle, h)
+pub adjoined :
+    (w : Option LabelSettings) (base : ℕ) (a b c : Stretch) → suits w (label_of a) ≡ true → same_label (label_of a) (label_of b) ≡ true → same_label (label_of b) (label_of c) ≡ true →
+    eqb (first_of a) 0 ≡ true → eqb (after_of a) (first_of b) ≡ true → eqb (after_of b) (first_of c) ≡ true → judged_three w base a b c ≡ Ok (period_of a b c)
+unfolding judged_three unless
+adjoined w base a b c suit left right start first second = rw (suit, left, right, start, first, second)
 
 -- an answer is the report of three known ones
 

@@ -13,6 +13,7 @@ use settings::LabelSettings;
 use tallies::Period;
 
 // Whether a summary has the label settings wanted, where any are.
+#[tactic(auto, using(settings::proofs::SettingsRecord::derived_same))]
 fn suited(wanted: Option<LabelSettings>, a: Stretch) -> bool
     ensures { result ≡ suits wanted (label_of a) }
 {
@@ -23,6 +24,7 @@ fn suited(wanted: Option<LabelSettings>, a: Stretch) -> bool
 }
 
 // Whether two summaries have the same label settings.
+#[tactic(auto, using(settings::proofs::SettingsRecord::derived_same))]
 fn alike(a: Stretch, b: Stretch) -> bool
     ensures { result ≡ same_label (label_of a) (label_of b) }
 {
@@ -44,7 +46,7 @@ fn adjoining(a: Stretch, b: Stretch) -> bool
 }
 
 // The report of three valid summaries, the first of which stands at `base`: label settings first, then numbers.
-#[tactic(auto, unfolding(numbers::specs::Limits::pairs))]
+#[tactic(auto, unfolding(crate::specs::Three::judged_three, crate::specs::Three::unless, numbers::specs::Limits::pairs))]
 fn judge(
     wanted: Option<LabelSettings>,
     base: usize,
@@ -85,7 +87,7 @@ fn summary_at(s: &[u8], k: usize) -> Option<Stretch>
 }
 
 // The report of the three summaries from `base` on, under the label settings that are wanted, or under any.
-#[tactic(auto, unfolding(numbers::specs::Limits::pairs))]
+#[tactic(auto, unfolding(crate::specs::Three::three_at, numbers::specs::Limits::pairs))]
 pub fn three_at(wanted: Option<LabelSettings>, s: &[u8], base: usize) -> Result<Period, Refusal>
     requires { base ≤ places }
     ensures { result ≡ three_at wanted s.now base }
@@ -104,6 +106,7 @@ pub fn three_at(wanted: Option<LabelSettings>, s: &[u8], base: usize) -> Result<
 }
 
 // The report of the middle one of three adjoining summaries, the first from 0.
+#[tactic(auto, unfolding(crate::specs::Three::report_of, crate::specs::Three::unless))]
 pub fn report(summaries: &[u8]) -> Result<Period, Refusal>
     ensures { result ≡ report_of summaries.now }
 {

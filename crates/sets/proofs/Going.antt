@@ -5,11 +5,9 @@ use mathlib.Core.List.{List, [], ◌∷◌, ◌++◌}
 use Prim.Native.Nat.{ℕ, suc, ◌+◌, ◌*◌, ◌-◌, ◌≤◌, ◌<◌}
 use native.Mathlib.Omega.{arith}
 use lib.ListN.{length}
-use borrow.Author.Tests.{le-leb, lt-leb, eq-eqb, ne_eqb}
-use Rattle.std.specs.Prelude.{Some, None, Result, Ok, Err}
+use borrow.Author.Tests.{le-leb, eq-eqb}
+use Rattle.std.specs.Prelude.{Some, Result, Ok, Err}
 use Rattle.numbers.specs.Limits.{pairs}
-use Rattle.numbers.specs.Refusals.{refusal}
-use Rattle.numbers.specs.declared.refusal.Fault.{Fault}
 use Rattle.numbers.specs.declared.refusal.Refusal.{Refusal}
 use Rattle.settings.specs.Settings.{settings_of}
 use Rattle.settings.specs.declared.LabelSettings.{LabelSettings}
@@ -69,30 +67,12 @@ module _ (v : Settings) (s : List ℕ) (n : ℕ) where
     unfolding set_from
     going_done h = g.left ∙ rw (pairs_done n k v.label s h, g.kept)
 
--- what the operation says where each test has been made: one law for each way out
-
-module _ (settings : List ℕ) (n : ℕ) (s : List ℕ) where
-  pub no_settings : settings_of settings ≡ None → judged_of settings n s ≡ Err (refusal Fault.Settings 0)
-  unfolding judged_of
-  no_settings h = rw h
-
-  module _ (v : Settings) (valid : settings_of settings ≡ Some v) where
-    pub no_pairs : n < 1 → judged_of settings n s ≡ Err (refusal Fault.Pairs 0)
-    unfolding judged_of unless
-    no_pairs h = rw (valid, lt-leb 1 n h)
-
-    pub many_pairs : pairs < n → judged_of settings n s ≡ Err (refusal Fault.Pairs 0)
-    unfolding judged_of unless pairs
-    many_pairs h = rw (valid, le-leb 1 n (omega arith), lt-leb n pairs h)
-
-    module _ (some : 1 ≤ n) (few : n ≤ pairs) where
-      pub no_length : (length s ≡ n * 3072 → ⊥) → judged_of settings n s ≡ Err (refusal Fault.Length 0)
-      unfolding judged_of unless
-      no_length h = rw (valid, le-leb 1 n some, le-leb n pairs few, ne_eqb (length s) (n * 3072) h)
-
-      pub gone_over : length s ≡ n * 3072 → judged_of settings n s ≡ set_from v [] (pairs_from n v.label s 0)
-      unfolding judged_of unless
-      gone_over h = rw (valid, le-leb 1 n some, le-leb n pairs few, eq-eqb (length s) (n * 3072) h)
+-- where each test has been made, the operation goes over the pairs
+pub gone_over :
+    (settings : List ℕ) (n : ℕ) (s : List ℕ) (v : Settings) → settings_of settings ≡ Some v → 1 ≤ n → n ≤ pairs → length s ≡ n * 3072 →
+    judged_of settings n s ≡ set_from v [] (pairs_from n v.label s 0)
+unfolding judged_of unless
+gone_over settings n s v valid some few h = rw (valid, le-leb 1 n some, le-leb n pairs few, eq-eqb (length s) (n * 3072) h)
 
 -- two results that the contract allows are one
 pub verdicts_coincide : (settings : List ℕ) (n : ℕ) (s : List ℕ) (x y : Result (PerObjective Verdict) Refusal) → x ≡ judged_of settings n s → y ≡ judged_of settings n s → x ≡ y

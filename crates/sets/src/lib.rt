@@ -10,6 +10,7 @@ use settings::Settings;
 use verdicts::Verdicts;
 
 // The verdicts of the first `n` pairs of `s` (the number is the caller's), or the first pair's refusal.
+#[tactic(auto, using(crate::proofs::Going::going_start, crate::proofs::Going::going_next), unfolding(numbers::specs::Limits::pairs))]
 fn of_pairs(v: Settings, s: &[u8], n: usize) -> Result<Verdicts, Refusal>
     requires { Gone v n }
     ensures { result ≡ set_from v [] (pairs_from n v.label s.now 0) }
@@ -24,6 +25,7 @@ fn of_pairs(v: Settings, s: &[u8], n: usize) -> Result<Verdicts, Refusal>
 }
 
 // The verdicts of the set, for each objective.
+#[tactic(auto, unfolding(crate::specs::Sets::judged_of, crate::specs::Sets::unless, numbers::specs::Limits::pairs))]
 pub fn verdicts(settings: &[u8], pairs: u64, summaries: &[u8]) -> Result<Verdicts, Refusal>
     ensures { result ≡ judged_of settings.now pairs summaries.now }
 {

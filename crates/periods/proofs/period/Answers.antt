@@ -1,6 +1,4 @@
 -- `periods::period` meets its contract: three known stretches fit together.
-use mathlib.Core.Path.{refl}
-use Rattle.periods.specs.Stretches.{period_held}
 use Rattle.periods.proofs.Fits.{known_three, loss_fits, composite_fits, count_fits, count_small}
 use Rattle.periods.proofs.period.Goals as goal
 
@@ -28,8 +26,3 @@ pub overflow_sub-result : goal.overflow_sub-result
 overflow_sub-result c =
     let a = c.args in
     rw c.count_in.ensures (count_fits a.left a.middle a.right (known_three a.left a.middle a.right c.requires))
-
-pub returns : goal.returns
-returns c =
-    let a = c.args in
-    rw (period_held a.left a.middle a.right, c.count_in.ensures, c.between_of-composite.ensures, c.between_of-loss.ensures) refl
