@@ -78,6 +78,7 @@ pub struct Held {
 }
 
 // Whether the words of the label settings fit its fields.
+#[tactic(auto, unfolding(crate::specs::Evaluators::fits_words, crate::specs::Evaluators::fit_rules))]
 fn fits(e: Evaluator) -> bool
     ensures { result ≡ fits_words e }
 {
@@ -92,6 +93,7 @@ fn fits(e: Evaluator) -> bool
 }
 
 // The words of the label settings, cut down to its fields.
+#[tactic(auto, unfolding(crate::specs::Evaluators::narrow_of))]
 fn narrow(e: Evaluator) -> LabelSettings
     ensures { result ≡ narrow_of e }
 {
@@ -108,6 +110,7 @@ fn narrow(e: Evaluator) -> LabelSettings
 }
 
 // The label settings in the words.
+#[tactic(auto, using(crate::proofs::Words::narrow_same, crate::proofs::Words::meets_fits), unfolding(crate::specs::Evaluators::label_read))]
 fn label_of(e: Evaluator) -> Option<LabelSettings>
     ensures { result ≡ label_read e }
 {
@@ -119,6 +122,7 @@ fn label_of(e: Evaluator) -> Option<LabelSettings>
 }
 
 // All that the words hold.
+#[tactic(auto, unfolding(crate::specs::Evaluators::held_read, crate::specs::Evaluators::evaluator_meets, crate::specs::Evaluators::evaluator_rules, crate::specs::Evaluators::label_read, numbers::specs::Limits::intervals))]
 fn held_in(e: Evaluator) -> Option<Held>
     ensures { result ≡ held_read e }
 {
@@ -160,6 +164,7 @@ fn settled_by(count: u64, mark: bool) -> Settled
 }
 
 // The next interval fed to what an evaluator holds: the evaluator after it, and what it settled.
+#[tactic(auto, unfolding(crate::specs::Evaluators::fed_with, crate::specs::Evaluators::answer_of, numbers::specs::Limits::intervals))]
 fn feed(h: Held, fed: u64, v: Interval) -> (Evaluator, Answer)
     requires { (label_meets h.label ≡ true) × (fed < intervals) × (h.loss.pending < h.label.n) × (h.composite.pending < h.label.n) }
     ensures { result ≡ (fed_with h fed v, answer_of h v) }
@@ -177,6 +182,7 @@ fn feed(h: Held, fed: u64, v: Interval) -> (Evaluator, Answer)
 }
 
 // An evaluator with nothing fed.
+#[tactic(auto, unfolding(crate::specs::Evaluators::start_of))]
 pub fn start(s: &[u8]) -> Result<Evaluator, Refusal>
     ensures { result ≡ start_of s.now }
 {
@@ -189,6 +195,7 @@ pub fn start(s: &[u8]) -> Result<Evaluator, Refusal>
 }
 
 // The next interval record: the evaluator after it and what it settled, or a refusal.
+#[tactic(auto, unfolding(crate::specs::Evaluators::step_of, crate::specs::Evaluators::held_read))]
 pub fn step(e: Evaluator, r: &[u8]) -> Result<(Evaluator, Answer), Refusal>
     ensures { result ≡ step_of e r.now }
 {
