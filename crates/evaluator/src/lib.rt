@@ -79,6 +79,7 @@ pub struct Held {
 }
 
 // Whether the words of the label settings fit its fields. One test for all: `try_from` on each word would be eight ways out with one law.
+#[tactic(auto, unfolding(crate::specs::Evaluators::fits_words, crate::specs::Evaluators::fit_rules))]
 fn fits(e: Evaluator) -> bool
     ensures { result ≡ fits_words e }
 {
@@ -93,6 +94,7 @@ fn fits(e: Evaluator) -> bool
 }
 
 // The words of the label settings, cut down to its fields.
+#[tactic(auto, unfolding(crate::specs::Evaluators::narrow_of))]
 fn narrow(e: Evaluator) -> LabelSettings
     ensures { result ≡ narrow_of e }
 {
@@ -109,6 +111,7 @@ fn narrow(e: Evaluator) -> LabelSettings
 }
 
 // The label settings in the words.
+#[tactic(auto, using(crate::proofs::Words::narrow_same, crate::proofs::Words::meets_fits), unfolding(crate::specs::Evaluators::label_read))]
 fn label_of(e: Evaluator) -> Option<LabelSettings>
     ensures { result ≡ label_read e }
 {
@@ -120,6 +123,7 @@ fn label_of(e: Evaluator) -> Option<LabelSettings>
 }
 
 // All that the words hold.
+#[tactic(auto, unfolding(crate::specs::Evaluators::held_read, crate::specs::Evaluators::evaluator_meets, crate::specs::Evaluators::evaluator_rules, crate::specs::Evaluators::label_read, numbers::specs::Limits::intervals))]
 fn held_in(e: Evaluator) -> Option<Held>
     ensures { result ≡ held_read e }
 {
@@ -161,7 +165,7 @@ fn settled_by(count: u64, mark: bool) -> Settled
 }
 
 // The next interval fed to what an evaluator holds: the evaluator after it, and what it settled.
-#[tactic(auto, unfolding(crate::specs::Evaluators::fed_with, crate::specs::Evaluators::answer_of))]
+#[tactic(auto, unfolding(crate::specs::Evaluators::fed_with, crate::specs::Evaluators::answer_of, numbers::specs::Limits::intervals))]
 fn feed(h: Held, fed: u64, v: Interval) -> (Evaluator, Answer)
     requires { (label_meets h.label ≡ true) × (fed < intervals) × (h.loss.pending < h.label.n) × (h.composite.pending < h.label.n) }
     ensures { result ≡ (fed_with h fed v, answer_of h v) }
@@ -183,10 +187,13 @@ fn feed(h: Held, fed: u64, v: Interval) -> (Evaluator, Answer)
 }
 
 // An evaluator with nothing fed.
+#[tactic(auto, unfolding(crate::specs::Evaluators::start_of))]
 pub fn start(s: &[u8]) -> Result<Evaluator, Refusal>
     ensures { result ≡ start_of s.now }
 {
-    let v = settings::read(s).ok_or(Fault::Settings)?;
+    let Some(v) = settings::read(s) else {
+        return Err(Fault::Settings.at(0));
+    };
     let t = Track {
         label: false,
         pending: 0,
@@ -195,6 +202,7 @@ pub fn start(s: &[u8]) -> Result<Evaluator, Refusal>
 }
 
 // The next interval record: the evaluator after it and what it settled, or a refusal.
+#[tactic(auto, unfolding(crate::specs::Evaluators::step_of, crate::specs::Evaluators::held_read))]
 pub fn step(e: Evaluator, r: &[u8]) -> Result<(Evaluator, Answer), Refusal>
     ensures { result ≡ step_of e r.now }
 {
@@ -202,7 +210,9 @@ pub fn step(e: Evaluator, r: &[u8]) -> Result<(Evaluator, Answer), Refusal>
         return Err(Fault::Length.at(0));
     }
     let h = held_in(e).ok_or(Fault::Field)?;
-    let v = intervals::read(r).ok_or(Fault::Field)?;
+    let Some(v) = intervals::read(r) else {
+        return Err(Fault::Field.at(0));
+    };
     if v.number as u64 != e.fed {
         return Err(Fault::Order.at(0));
     }

@@ -23,6 +23,7 @@ fn counts_of(v: Interval) -> Counts
 }
 
 // The same out of the bytes of a record.
+#[tactic(auto, unfolding(crate::specs::Marked::counts_in))]
 fn counts_in(s: &[u8]) -> Counts
     ensures { result ≡ counts_in s.now }
 {
@@ -43,6 +44,7 @@ pub fn counts_at(s: &[u8], k: usize) -> Counts
 }
 
 // The marks of counts.
+#[tactic(auto, using(settings::proofs::SettingsRecord::label_valid), unfolding(numbers::specs::Limits::million))]
 pub fn high(l: LabelSettings, x: Counts) -> Both<bool>
     requires { label_meets l ≡ true }
     ensures { result ≡ both_high l x }

@@ -21,6 +21,7 @@ fn byte_of(label: bool) -> u8
 }
 
 // Every second byte from `from` on, `count` of them, set to `x`. By places, as `part[from..]` would ask more: with none to set, `from` may be past the end.
+#[tactic(auto, using(crate::proofs::Strides::strided_start, crate::proofs::Strides::strided_none))]
 fn fill(part: &mut [u8], from: usize, count: usize, x: u8)
     requires { from + 2 * count ≤ length part.old + 1 }
     ensures { part.new ≡ strided part.old from count x }
@@ -31,6 +32,7 @@ fn fill(part: &mut [u8], from: usize, count: usize, x: u8)
 }
 
 // The mark of interval `k`: the track after it, with the labels that it settles written on their lane.
+#[tactic(auto, using(rule::proofs::Settling::gain_count))]
 fn settle(part: &mut [u8], k: usize, lane: usize, n: u64, t: Track, mark: bool) -> Track
     requires { (t.pending < n) × (t.pending ≤ k) × (2 * k + lane < length part.old) }
     ensures { (result ≡ turn n t mark) × (part.new ≡ settled_in part.old k lane n t mark) }
@@ -78,6 +80,7 @@ fn leave_both(part: &mut [u8], k: usize, t: Both<Track>)
 }
 
 // The label bytes of the sound records of `r`, into a part that is just as long.
+#[tactic(auto, using(crate::proofs::Writing::lanes_step, crate::proofs::Writing::lanes_done, crate::proofs::Strides::length_strided))]
 fn write_labels(l: LabelSettings, r: &[u8], part: &mut [u8])
     requires { Writing l r.now part.old }
     ensures { part.new ≡ label_bytes l (intervals_of (intervals_in r.now)) }
@@ -98,6 +101,7 @@ fn write_labels(l: LabelSettings, r: &[u8], part: &mut [u8])
 }
 
 // The label bytes of the `n` whole records of `r` (as they were counted; taken from the length it would be counted twice), written at `at` of `out` if there is room and the records are sound.
+#[tactic(auto, using(numbers::proofs::Window::room_within, crate::proofs::Placing::labels_placed))]
 fn write_at(l: LabelSettings, r: &[u8], n: usize, out: &mut [u8], at: usize) -> Result<(), Refusal>
     requires { (label_meets l ≡ true) × (n ≡ length r.now / 48) }
     ensures { outcome result out.new ≡ when_whole l r.now out.old at n }
@@ -111,10 +115,13 @@ fn write_at(l: LabelSettings, r: &[u8], n: usize, out: &mut [u8], at: usize) -> 
 }
 
 // The label bytes of the stretch `r` of interval records from 0, written at `at` of `out`.
+#[tactic(auto, using(crate::proofs::Placing::read_label, crate::proofs::Placing::counted), unfolding(crate::specs::Stretch::labels_of))]
 pub fn labels(s: &[u8], r: &[u8], out: &mut [u8], at: usize) -> Result<(), Refusal>
     ensures { outcome result out.new ≡ labels_of s.now r.now out.old at }
 {
-    let v = settings::read(s).ok_or(Fault::Settings)?;
+    let Some(v) = settings::read(s) else {
+        return Err(Fault::Settings.at(0));
+    };
     let n = many::count(r.len(), 48).ok_or(Fault::Length)?;
     write_at(v.label, r, n, out, at)
 }

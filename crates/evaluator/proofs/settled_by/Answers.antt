@@ -1,9 +1,0 @@
--- `evaluator::settled_by`: 2 when none.
-use borrow.Author.Tests.{eq-eqb, ne_eqb}
-use Rattle.evaluator.proofs.settled_by.Goals as goal
-
-pub returns-then-count-eq0 : goal.returns-then-count-eq0
-returns-then-count-eq0 c = rw (eq-eqb _ _ c.if-count-eq0.true)
-
-pub returns : goal.returns
-returns c = rw (ne_eqb _ _ c.if-count-eq0.false, c.word_of.ensures)
