@@ -7,5 +7,5 @@ use Rattle.evaluator.proofs.step.Goals as goal
 pub feed-requires : goal.feed-requires
 feed-requires c =
     let held = found c.held_in.result _ c.ok_or.result _ c.ok_or.ensures.value c.in_ok-h.was in
-    let read = found c.read.result _ c.ok_or-2.result _ c.ok_or-2.ensures.value c.in_ok-v.was in
-    feedable c.args.e c.in_ok-h.h _ c.in_ok-v.v (sym c.held_in.ensures ∙ held) (sym c.read.ensures ∙ read) c.if-v-e.false
+    let read = c.in-Some.is in
+    feedable c.args.e c.in_ok-h.h _ c.in-Some.v (sym c.held_in.ensures ∙ held) (sym c.read.ensures ∙ read) c.if-v-e.false
