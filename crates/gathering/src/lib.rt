@@ -81,7 +81,9 @@ fn go_on_several(
     let mut high = begun;
     let mut due = from;
     for k in place..n {
-        let v = intervals::read_at(s, k).ok_or(Fault::Field.at(k as u64))?;
+        let Some(v) = intervals::read_at(s, k) else {
+            return Err(Fault::Field.at(k as u64));
+        };
         if v.number != due {
             return Err(Fault::Order.at(k as u64));
         }
@@ -158,7 +160,9 @@ fn go_on(
                 return go_on_several(l, s, n, first, held, segment, high, next, k);
             }
         }
-        let v = intervals::read_at(s, k).ok_or(Fault::Field.at(k as u64))?;
+        let Some(v) = intervals::read_at(s, k) else {
+            return Err(Fault::Field.at(k as u64));
+        };
         if v.number != next {
             return Err(Fault::Order.at(k as u64));
         }
@@ -198,7 +202,9 @@ pub fn gather(l: LabelSettings, s: &[u8], first: u32) -> Result<Summary, Refusal
             composite: Track::Nothing,
         });
     }
-    let v = intervals::read_at(s, 0).ok_or(Fault::Field)?;
+    let Some(v) = intervals::read_at(s, 0) else {
+        return Err(Fault::Field.at(0));
+    };
     if v.number != first {
         return Err(Fault::Order.at(0));
     }

@@ -4,7 +4,6 @@ use mathlib.Core.Path.{ap, sym, ◌∙◌}
 use native.Mathlib.Omega.{arith}
 use Rattle.std.specs.Prelude.{Err}
 use Rattle.numbers.specs.Limits.{intervals}
-use Rattle.numbers.proofs.Refused.{found, refused}
 use Rattle.tracks.specs.Tracks.{push}
 use Rattle.gathering.specs.Gathering.{toned}
 use Rattle.gathering.proofs.Gathering.{on_done, on_invalid, on_disordered}
@@ -33,21 +32,19 @@ returns-in-Many-composite c =
     let l = c.loop-k in
     made_on a.l a.s.now a.n a.first (of_first a.l a.s.now a.n a.first a.start a.begun) l.loss l.composite l.segment l.high l.next l.k l.invariant c.in-Many.is c.in-Many-composite.is c.go_on_several.ensures
 
-pub returns-in_err-v : goal.returns-in_err-v
-returns-in_err-v c =
+pub returns-in_default-read_at : goal.returns-in_default-read_at
+returns-in_default-read_at c =
     let a = c.args in
     let l = c.loop-k in
-    let out = refused (λ r. r) c.read_at.result _ c.ok_or.result _ c.from_residual.result c.ok_or.ensures.value c.in_err-v.was c.from_residual.ensures in
-    out.1
-    ∙ ap Err c.at.ensures
-    ∙ sym (l.invariant.goes_on ∙ on_invalid a.l a.first a.n l.k l.next a.s.now (push a.l.n a.l.p l.loss (toned l.high.loss l.segment)) (push a.l.n a.l.p l.composite (toned l.high.composite l.segment)) c.loop-k-test.true (sym c.read_at.ensures ∙ out.0))
+    ap Err c.at.ensures
+    ∙ sym (l.invariant.goes_on ∙ on_invalid a.l a.first a.n l.k l.next a.s.now (push a.l.n a.l.p l.loss (toned l.high.loss l.segment)) (push a.l.n a.l.p l.composite (toned l.high.composite l.segment)) c.loop-k-test.true (sym c.read_at.ensures ∙ c.in_default-read_at.is))
 
 pub returns-then-v-next : goal.returns-then-v-next
 returns-then-v-next c =
     let a = c.args in
     let l = c.loop-k in
-    let v = c.in_ok-v.v in
-    let e = sym c.read_at.ensures ∙ found c.read_at.result _ c.ok_or.result _ c.ok_or.ensures.value c.in_ok-v.was in
+    let v = c.in-Some.v in
+    let e = sym c.read_at.ensures ∙ c.in-Some.is in
     ap Err c.at-then-v-next.ensures
     ∙ sym (l.invariant.goes_on ∙ on_disordered a.l a.first a.n l.k l.next a.s.now (push a.l.n a.l.p l.loss (toned l.high.loss l.segment)) (push a.l.n a.l.p l.composite (toned l.high.composite l.segment)) v c.loop-k-test.true e c.if-v-next.true)
 
@@ -58,8 +55,8 @@ pub glue-segment-requires : goal.glue-segment-requires
 glue-segment-requires c =
     let a = c.args in
     let l = c.loop-k in
-    let v = c.in_ok-v.v in
-    let e = sym c.read_at.ensures ∙ found c.read_at.result _ c.ok_or.result _ c.ok_or.ensures.value c.in_ok-v.was in
+    let v = c.in-Some.v in
+    let e = sym c.read_at.ensures ∙ c.in-Some.is in
     let more = c.loop-k-test.true in
     let due = c.if-v-next.false in
     rw c.run_of-x.ensures
@@ -86,8 +83,8 @@ pub loop-k-preserved : goal.loop-k-preserved
 loop-k-preserved c =
     let a = c.args in
     let l = c.loop-k in
-    let v = c.in_ok-v.v in
-    let e = sym c.read_at.ensures ∙ found c.read_at.result _ c.ok_or.result _ c.ok_or.ensures.value c.in_ok-v.was in
+    let v = c.in-Some.v in
+    let e = sym c.read_at.ensures ∙ c.in-Some.is in
     let more = c.loop-k-test.true in
     let due = c.if-v-next.false in
     let run = c.run_of-x.ensures in

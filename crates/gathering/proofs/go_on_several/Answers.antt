@@ -4,7 +4,6 @@ use mathlib.Core.Path.{refl, ap, sym, ◌∙◌}
 use native.Mathlib.Omega.{arith}
 use Rattle.std.specs.Prelude.{Err}
 use Rattle.numbers.specs.Limits.{intervals}
-use Rattle.numbers.proofs.Refused.{found, refused}
 use Rattle.tracks.specs.declared.Track.TheVariants.{Many}
 use Rattle.tracks.specs.Tracks.{push}
 use Rattle.tracks.proofs.Fitting.{push_shuts, push_glues}
@@ -19,21 +18,19 @@ loop-k-init c =
     let a = c.args in
     going_gone a.l a.s.now a.n a.first (several_of a.held.loss) (several_of a.held.composite) a.start a.begun a.from a.place c.requires
 
-pub returns-in_err-v : goal.returns-in_err-v
-returns-in_err-v c =
+pub returns-in_default : goal.returns-in_default
+returns-in_default c =
     let a = c.args in
     let l = c.loop-k in
-    let out = refused (λ r. r) c.read_at.result _ c.ok_or.result _ c.from_residual.result c.ok_or.ensures.value c.in_err-v.was c.from_residual.ensures in
-    out.1
-    ∙ ap Err c.at.ensures
-    ∙ sym (l.invariant.goes_on ∙ on_invalid a.l a.first a.n l.k l.due a.s.now (push a.l.n a.l.p (Many a.held.loss.first l.loss l.loss_last) (toned l.high.loss l.segment)) (push a.l.n a.l.p (Many a.held.composite.first l.composite l.composite_last) (toned l.high.composite l.segment)) c.loop-k-test.true (sym c.read_at.ensures ∙ out.0))
+    ap Err c.at.ensures
+    ∙ sym (l.invariant.goes_on ∙ on_invalid a.l a.first a.n l.k l.due a.s.now (push a.l.n a.l.p (Many a.held.loss.first l.loss l.loss_last) (toned l.high.loss l.segment)) (push a.l.n a.l.p (Many a.held.composite.first l.composite l.composite_last) (toned l.high.composite l.segment)) c.loop-k-test.true (sym c.read_at.ensures ∙ c.in_default.is))
 
 pub returns-then-v-due : goal.returns-then-v-due
 returns-then-v-due c =
     let a = c.args in
     let l = c.loop-k in
-    let v = c.in_ok-v.v in
-    let e = sym c.read_at.ensures ∙ found c.read_at.result _ c.ok_or.result _ c.ok_or.ensures.value c.in_ok-v.was in
+    let v = c.in-Some.v in
+    let e = sym c.read_at.ensures ∙ c.in-Some.is in
     ap Err c.at-then-v-due.ensures
     ∙ sym (l.invariant.goes_on ∙ on_disordered a.l a.first a.n l.k l.due a.s.now (push a.l.n a.l.p (Many a.held.loss.first l.loss l.loss_last) (toned l.high.loss l.segment)) (push a.l.n a.l.p (Many a.held.composite.first l.composite l.composite_last) (toned l.high.composite l.segment)) v c.loop-k-test.true e c.if-v-due.true)
 
@@ -44,8 +41,8 @@ pub glue-segment-requires : goal.glue-segment-requires
 glue-segment-requires c =
     let a = c.args in
     let l = c.loop-k in
-    let v = c.in_ok-v.v in
-    let e = sym c.read_at.ensures ∙ found c.read_at.result _ c.ok_or.result _ c.ok_or.ensures.value c.in_ok-v.was in
+    let v = c.in-Some.v in
+    let e = sym c.read_at.ensures ∙ c.in-Some.is in
     let more = c.loop-k-test.true in
     let due = c.if-v-due.false in
     rw c.run_of-x.ensures
@@ -86,8 +83,8 @@ pub loop-k-preserved : goal.loop-k-preserved
 loop-k-preserved c =
     let a = c.args in
     let l = c.loop-k in
-    let v = c.in_ok-v.v in
-    let e = sym c.read_at.ensures ∙ found c.read_at.result _ c.ok_or.result _ c.ok_or.ensures.value c.in_ok-v.was in
+    let v = c.in-Some.v in
+    let e = sym c.read_at.ensures ∙ c.in-Some.is in
     let more = c.loop-k-test.true in
     let due = c.if-v-due.false in
     let run = c.run_of-x.ensures in
