@@ -22,7 +22,9 @@ pub struct Stretch {
 pub fn read(s: &[u8]) -> Option<Stretch>
     ensures { result ≡ stretch_of s.now }
 {
-    let held = summaries::read(s)?;
+    let Some(held) = summaries::read(s) else {
+        return None;
+    };
     Some(Stretch { held })
 }
 
