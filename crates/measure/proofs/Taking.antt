@@ -89,5 +89,5 @@ module _ (dl jt from to n k earliest : ℕ) (s : List ℕ) (t : Tally) where
         rw (each_next frame_of 16 s n k h, e, le-leb from f.time low, lt-ltb f.time to high, le-leb earliest f.time ordered, g)
         (with_taken dl jt t f (frames_in from to (suc k) (f.time + 1) (reads_from (n - suc k) s (suc k))))
 
--- what a turn of the loop, and each way out of it, does to the answer
-pub ruleset take_steps = (take_done, take_invalid, take_early, take_beyond, take_disordered, take_next, small_nothing, small_more, sent_more)
+-- the loop as it begins, and each way out of it
+pub ruleset take_ends = (small_nothing, take_done, take_invalid, take_early, take_beyond, take_disordered)

@@ -99,7 +99,7 @@ fn finish(t: Tally, number: u32, maintenance: bool) -> Interval
 
 // The tally of the `n` frames in `s` (as they were counted: from the length it would be counted twice), with times from `from` to before `to`, or the first fault among
 // them.
-#[tactic(auto, using(crate::proofs::Taking::take_steps, frames::proofs::FrameRecord::frame_valid))]
+#[tactic(auto, using(crate::proofs::Taking::take_ends))]
 fn take_frames(s: &[u8], n: usize, from: u64, to: u64, dl: u32, jt: u32) -> Result<Tally, Refusal>
     requires { (n ≤ frames) × (to < 2 ^ 63) }
     ensures { result ≡ taken_of dl jt nothing (frames_in from to 0 0 (reads_from n s.now 0)) }
