@@ -6,7 +6,7 @@ use Prim.Native.Nat.{ℕ, ◌+◌, ◌-◌, ◌/◌, ◌≤◌, ◌<◌}
 use native.Mathlib.Nat.{add-zero, zero-add}
 use native.Mathlib.Omega.{arith}
 use lib.ListN.{length, take, drop, length-append, length-take, length-drop, take-append-drop}
-use lib.Seq.{take_all, take-length, take_at, length-take-le, take-append-add}
+use lib.Seq.{take_all, take_at, length-take-le, take-append-add}
 use borrow.Rule.Slice.PartMut.{put_mid, same_len_mid}
 use Rattle.std.specs.Prelude.{Result, Ok, Err}
 use Rattle.numbers.specs.Refusals.{refusal}
@@ -26,25 +26,22 @@ use Rattle.feeding.proofs.Whole.{adjoins, held_known, held_whole, filled_behind}
 
 -- bytes put behind the k that wait in the tail t
 module _ (t src : List ℕ) (k n : ℕ) (room : length t ≡ 48) (fits : k + length src ≤ 48) (all : n ≡ length src) {after : List ℕ}
-    (put : after ≡ take (length src) src ++ drop (length src) (take (length t - k) (drop k t))) where
+    (put : after ≡ src ++ drop (length src) (take (length t - k) (drop k t))) where
   -- what stands behind them
   beyond : List ℕ
   beyond = drop (length src) (take (length t - k) (drop k t))
 
-  put_as : after ≡ src ++ beyond
-  unfolding beyond
-  put_as = put ∙ ap (λ l. l ++ beyond) (take-length src)
-
   pub waiting_length : length (put_mid k (length t - k) t after) ≡ 48
   unfolding beyond
   waiting_length =
-      same_len_mid k (length t - k) t after (ap length put_as ∙ simp (length-append, length-drop, length-take) (omega arith)) ∙ room
+      same_len_mid k (length t - k) t after (ap length put ∙ simp (length-append, length-drop, length-take) (omega arith)) ∙ room
 
   pub waiting : take (k + n) (put_mid k (length t - k) t after) ≡ take k t ++ src
+  unfolding beyond
   waiting =
       let e : length (take k t) ≡ k = length-take-le k t (omega arith) in
       let rest : List ℕ = beyond ++ drop (length t - k) (drop k t) in
-      ap (λ l. take (k + n) (take k t ++ (l ++ drop (length t - k) (drop k t)))) put_as
+      ap (λ l. take (k + n) (take k t ++ (l ++ drop (length t - k) (drop k t)))) put
       ∙ ap (λ l. take (k + n) (take k t ++ l)) (append_assoc src beyond (drop (length t - k) (drop k t)))
       ∙ ap (λ j. take (j + n) (take k t ++ (src ++ rest))) (sym e)
       ∙ take-append-add (take k t) (src ++ rest) n
@@ -62,7 +59,7 @@ held_stays (Held.Faulty r) s few = refl
 -- a record that goes on but does not end
 pub goes_on :
     (h : Held) (t piece : List ℕ) (k n : ℕ) → length t ≡ 48 → k + length piece < 48 → n ≡ length piece → Growing h → {after : List ℕ} →
-    after ≡ take (length piece) piece ++ drop (length piece) (take (length t - k) (drop k t)) →
+    after ≡ piece ++ drop (length piece) (take (length t - k) (drop k t)) →
     (standing (record { held = h; left = k + n }) (put_mid k (length t - k) t after) ≡ fed (standing (record { held = h; left = k }) t) piece)
     × Ready (record { held = h; left = k + n }) (put_mid k (length t - k) t after)
 unfolding fed filled
@@ -80,7 +77,7 @@ goes_on h t piece k n room fits all valid put =
 pub ends :
     (h : Held) (t piece : List ℕ) (k n : ℕ) → length t ≡ 48 → k < 48 → 48 ≤ k + length piece → n ≡ length (take (48 - k) piece) → Growing h →
     {after rest : List ℕ} {next : Held} {x : Standing} →
-    after ≡ take (length (take (48 - k) piece)) (take (48 - k) piece) ++ drop (length (take (48 - k) piece)) (take (length t - k) (drop k t)) → rest ≡ drop (48 - k) piece →
+    after ≡ take (48 - k) piece ++ drop (length (take (48 - k) piece)) (take (length t - k) (drop k t)) → rest ≡ drop (48 - k) piece →
     next ≡ grown_by h (put_mid k (length t - k) t after) → x ≡ filled next rest →
     x ≡ fed (standing (record { held = h; left = k }) t) piece
 unfolding fed
@@ -99,19 +96,18 @@ ends h t piece k n room few long all valid {after} {rest} {next} {x} put e f g =
 -- no record has begun: the whole records are taken in, and the rest waits
 pub waits :
     (h next : Held) (t piece rest : List ℕ) (n : ℕ) → length t ≡ 48 → Growing h → next ≡ grown_by h (whole_of piece) → rest ≡ rest_of piece → n ≡ length rest →
-    {after : List ℕ} → after ≡ take (length rest) rest ++ drop (length rest) t →
+    {after : List ℕ} → after ≡ rest ++ drop (length rest) t →
     (standing (record { held = next; left = n }) after ≡ filled h piece) × Ready (record { held = next; left = n }) after
 unfolding filled
 waits h next t piece rest n room valid e f all {after} put =
-    let few : n < 48 = omega (arith, all, ap length f, rest_short piece) in
-    let as_put : after ≡ rest ++ drop (length rest) t = put ∙ ap (λ l. l ++ drop (length rest) t) (take-length rest) in (
+    let few : n < 48 = omega (arith, all, ap length f, rest_short piece) in (
       (λ i.
           record {
             held = (e ∙ held_whole h piece) i;
-            tail = (ap (take n) as_put ∙ take_at rest (drop (length rest) t) n (sym all) ∙ f) i;
+            tail = (ap (take n) put ∙ take_at rest (drop (length rest) t) n (sym all) ∙ f) i;
           }),
       record {
-        room = ap length as_put ∙ simp (length-append, length-drop) (omega arith);
+        room = ap length put ∙ simp (length-append, length-drop) (omega arith);
         few = few;
         valid = subst Growing (sym e) (held_known h (whole_of piece) valid);
       },

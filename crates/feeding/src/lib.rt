@@ -37,6 +37,7 @@ fn moved(r: Refusal, by: u32) -> Refusal
 }
 
 // A summary from 0, grown by the records of `s` behind it, or the first of these that is at fault.
+#[tactic(auto, using(summaries::proofs::Validity::summary_valid, crate::proofs::Waiting::grown_bad), unfolding(numbers::specs::Limits::intervals))]
 fn grow(v: Summary, s: &[u8]) -> Held
     requires { Known v }
     ensures { result ≡ grown v s.now }
@@ -48,6 +49,7 @@ fn grow(v: Summary, s: &[u8]) -> Held
 }
 
 // What is held after the records of `s`. After a fault nothing changes.
+#[tactic(auto, unfolding(crate::specs::Feeding::Growing))]
 fn take_in(held: Held, s: &[u8]) -> Held
     requires { Growing held }
     ensures { result ≡ grown_by held s.now }
@@ -60,6 +62,7 @@ fn take_in(held: Held, s: &[u8]) -> Held
 }
 
 // Nothing is fed yet.
+#[tactic(auto, unfolding(crate::specs::Feeding::begun, summaries::specs::Made::made_of, tracks::specs::Tracks::summary, tracks::specs::Tracks::push_all))]
 pub fn start(settings: &[u8]) -> State
     ensures { result ≡ begun settings.now }
 {
@@ -86,7 +89,7 @@ pub fn start(settings: &[u8]) -> State
 fn copy(from: &[u8], to: &mut [u8]) -> usize
     requires { length from.now ≤ length to.old }
     ensures count { result ≡ length from.now }
-    ensures after { to.new ≡ take (length from.now) from.now ++ drop (length from.now) to.old }
+    ensures after { to.new ≡ from.now ++ drop (length from.now) to.old }
 {
     to[..from.len()].copy_from_slice(from);
     from.len()

@@ -4,7 +4,7 @@ use mathlib.Core.List.{◌++◌}
 use Prim.Native.Nat.{◌-◌}
 use native.Mathlib.Omega.{arith}
 use lib.ListN.{length, take, drop, length-take, length-drop}
-use lib.Seq.{take_all, length-take-le}
+use lib.Seq.{take_all}
 use Rattle.feeding.specs.Feeding.{Growing, fed, filled}
 use Rattle.feeding.proofs.Waiting.{goes_on, ends, waiting_length}
 use Rattle.feeding.proofs.Whole.{held_known}
@@ -22,12 +22,6 @@ pub returns-then-piece-room : goal.returns-then-piece-room
 returns-then-piece-room c = let a = c.args in let r = c.requires in
     let w = goes_on a.state.held a.tail.now a.piece.now a.state.left c.copy-more.result r.room (omega (arith, r.few, c.if-piece-room.true)) c.copy-more.ensures.count r.valid c.copy-more.ensures.after in
     record { tail_after = w.0; ready = w.1 }
-
-pub slice_bounds-copy-end-2 : goal.slice_bounds-copy-end-2
-slice_bounds-copy-end-2 c = let a = c.args in sym (length-take-le (48 - a.state.left) a.piece.now (omega (arith, c.if-piece-room.false)))
-
-pub copy-requires : goal.copy-requires
-copy-requires c = simp (length-take, length-drop) (omega (arith, c.requires.room))
 
 pub feed_whole-requires-2 : goal.feed_whole-requires-2
 feed_whole-requires-2 c = let a = c.args in let r = c.requires in (

@@ -1,17 +1,12 @@
 -- `feeding::feed_whole` meets its contract: the whole records are taken in, and fewer than 48 bytes are left to wait.
-use mathlib.Core.Path.{sym}
 use Prim.Native.Nat.{◌-◌, ◌*◌, ◌/◌}
-use native.Mathlib.Nat.{div-mul-le_self}
 use native.Mathlib.Omega.{arith}
 use lib.ListN.{length, drop, length-drop}
-use lib.Seq.{take_all, length-take-le}
+use lib.Seq.{take_all}
 use Rattle.feeding.specs.Feeding.{rest_of}
 use Rattle.feeding.proofs.Pieces.{whole_of}
 use Rattle.feeding.proofs.Waiting.{waits}
 use Rattle.feeding.proofs.feed_whole.Goals as goal
-
-pub slice_bounds-take_in-end : goal.slice_bounds-take_in-end
-slice_bounds-take_in-end c = let p = c.args.piece.now in sym (length-take-le (length p / 48 * 48) p (div-mul-le_self (length p) 48))
 
 pub returns : goal.returns
 unfolding whole_of rest_of
