@@ -47,6 +47,7 @@ fn settled_by(a: Answer) -> [u64; 4]
 }
 
 // The evaluator in the first words.
+#[tactic(auto, unfolding(crate::specs::Running::evaluator_in))]
 fn read(words: &[u64]) -> Evaluator
     requires { 13 ≤ length words.now }
     ensures { result ≡ evaluator_in words.now }
@@ -69,6 +70,7 @@ fn read(words: &[u64]) -> Evaluator
 }
 
 // An evaluator with nothing fed.
+#[tactic(auto, using(evaluator::proofs::Places::start_place), unfolding(crate::specs::Running::start_told))]
 pub fn mip_start(settings: &[u8], evaluator: &mut [u64]) -> u64
     ensures { StartLeft settings.now evaluator.old result evaluator.new }
 {
@@ -85,6 +87,7 @@ pub fn mip_start(settings: &[u8], evaluator: &mut [u64]) -> u64
 }
 
 // The next interval record: the evaluator is altered where it stands.
+#[tactic(auto, using(evaluator::proofs::Places::step_place), unfolding(crate::specs::Running::step_told))]
 pub fn mip_step(evaluator: &mut [u64], interval: &[u8], settled: &mut [u64]) -> u64
     ensures { StepLeft evaluator.old interval.now settled.old result evaluator.new settled.new }
 {

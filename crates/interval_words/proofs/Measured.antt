@@ -1,4 +1,4 @@
--- `mip_interval`: the place of a refusal is that of a frame, so it fits its word; and the outcome as a word.
+-- `mip_interval`: the place of a refusal is that of a frame, so it fits its word.
 use Prim.Native.Nat.{ℕ, suc, ◌+◌, ◌*◌, ◌≤◌, ◌<◌, ◌^◌}
 use mathlib.Core.Bool.{Bool, true, false, ◌&&◌}
 use mathlib.Core.List.{List, [], ◌∷◌}
@@ -22,7 +22,7 @@ use Rattle.numbers.specs.declared.refusal.Refusal.{Refusal}
 use Rattle.settings.specs.Settings.{settings_of}
 use Rattle.settings.specs.declared.LabelSettings.{LabelSettings}
 use Rattle.frames.specs.declared.Frame.{Frame}
-use Rattle.interval_words.specs.FrameList.{word_for, IntervalLeft}
+use Rattle.interval_words.specs.FrameList.{IntervalLeft}
 use Rattle.intervals.specs.declared.Interval.{Interval}
 use Rattle.settings.specs.declared.Settings.{Settings}
 
@@ -112,10 +112,6 @@ module _ (settings s : List ℕ) (number maintenance : ℕ) (out : List ℕ) (at
       let same : r.place ≡ place_of (judged settings s number maintenance (length out) at) =
       ap answer_place (sym e ∙ o.answered) ∙ answer_place_lem (judged settings s number maintenance (length out) at) in
       omega (arith, same, read_place (settings_of settings) (has_room (length out) at 48) number maintenance s)
-
-  pub as_word :
-      {after : List ℕ} (a : Result (Unit {0}) Refusal) (n : ℕ) → Outcome settings s number maintenance out at a after → n ≡ word_for a → IntervalLeft settings s number maintenance out at n after
-  as_word a n o e = record { word = e ∙ ap word_for o.answered; left = o.left }
 
 -- two results, with the buffers that they leave, that the contract of `mip_interval` allows coincide
 pub intervals_coincide :

@@ -10,6 +10,7 @@ use words::{word, written};
 const ANSWERS: usize = 4;
 
 // The words of the answers.
+#[tactic(auto, using(crate::proofs::Delayed::told))]
 fn words_of(f: Figures) -> [u64; 4]
     ensures { result ≡ answer_words f }
 {
@@ -22,6 +23,7 @@ fn words_of(f: Figures) -> [u64; 4]
 }
 
 // The answers are the percentile delay, the range, and the verdict of each.
+#[tactic(auto, using(delays::proofs::Judged::refused_place), unfolding(crate::specs::DelayList::delays_outcome, delays::specs::Outcome::outcome, numbers::specs::Limits::delays))]
 pub fn mip_delays(settings: &[u8], delays: &[u32], answers: &mut [u64]) -> u64
     ensures { Answers (delays_outcome settings.now delays.now answers.old) answers.old result answers.new }
 {

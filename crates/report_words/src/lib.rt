@@ -63,6 +63,7 @@ fn refused(fault: Fault) -> u64
 }
 
 // The report of the middle one of three adjoining summaries.
+#[tactic(auto, using(reports::proofs::Places::report_place), unfolding(crate::specs::ReportList::report_told, reports::specs::Three::report_of, reports::specs::Three::unless))]
 pub fn mip_report(summaries: &[u8], figures: &mut [u64]) -> u64
     ensures { ReportLeft summaries.now figures.old result figures.new }
 {
@@ -82,6 +83,7 @@ pub fn mip_report(summaries: &[u8], figures: &mut [u64]) -> u64
 }
 
 // The verdicts of a set of pairs, three summaries each.
+#[tactic(auto, using(sets::proofs::Places::verdicts_place), unfolding(crate::specs::ReportList::verdicts_told, sets::specs::Sets::judged_of, sets::specs::Sets::unless, numbers::specs::Limits::pairs))]
 pub fn mip_verdicts(settings: &[u8], pairs: u64, summaries: &[u8], answers: &mut [u64]) -> u64
     ensures { VerdictsLeft settings.now pairs summaries.now answers.old result answers.new }
 {

@@ -1,5 +1,5 @@
 -- `mip_summary` and `mip_join`: the place of a refusal fits its word, since a record before the faulty one is valid and has the next number, and of two
--- summaries the later one is at place 1; and the outcomes as words.
+-- summaries the later one is at place 1.
 use Prim.Native.Nat.{ℕ, ◌+◌, ◌/◌, ◌≤◌, ◌<◌, ◌^◌}
 use mathlib.Core.Bool.{Bool, true, false}
 use mathlib.Core.List.{List}
@@ -24,7 +24,7 @@ use Rattle.summaries.specs.declared.Summary.{Summary}
 use Rattle.gathering.specs.Gathering.{good_if, gathered}
 use Rattle.making.specs.Making
 use Rattle.joining.specs.Joining
-use Rattle.summary_words.specs.SummaryList.{made_word, joined_word, SummaryLeft, JoinLeft}
+use Rattle.summary_words.specs.SummaryList.{SummaryLeft, JoinLeft}
 use Rattle.settings.specs.declared.Settings.{Settings}
 
 -- the place of a fault, 0 where there is none
@@ -89,9 +89,6 @@ module _ (settings : List ℕ) (first : ℕ) (s out : List ℕ) (at : ℕ) where
       let same : r.place ≡ gathered_place (Making.made settings first s (length out) at) = ap made_at (sym e ∙ o.answered) ∙ made_at_lem (Making.made settings first s (length out) at) in
       omega (arith, same, made_place (settings_of settings) (has_room (length out) at 1024) first s)
 
-  pub summary_word : {after : List ℕ} (a : Result (Unit {0}) Refusal) (n : ℕ) → Making.Outcome settings first s out at a after → n ≡ made_word a → SummaryLeft settings first s out at n after
-  summary_word a n o e = record { word = e ∙ ap made_word o.answered; left = o.left }
-
 -- a refusal of `join`
 
 joined_at : Result (Unit {0}) Refusal → ℕ
@@ -127,9 +124,6 @@ module _ (a b out : List ℕ) (at : ℕ) where
   join_fits j r o e =
       let same : r.place ≡ judged_at (Joining.judged a b (length out) at) = ap joined_at (sym e ∙ o.answered) in
       omega (arith, same, judged_at_lem a b (length out) at)
-
-  pub join_word : {after : List ℕ} (j : Result (Unit {0}) Refusal) (n : ℕ) → Joining.Outcome a b out at j after → n ≡ joined_word j → JoinLeft a b out at n after
-  join_word j n o e = record { word = e ∙ ap joined_word o.answered; left = o.left_in }
 
 -- two results, with the buffers that they leave, that the contract of `mip_summary` allows coincide
 pub summaries_coincide :

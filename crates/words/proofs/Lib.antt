@@ -1,3 +1,2 @@
 -- The laws of this crate that belong to no one function.
 pub mod Faults
-pub mod Writing

