@@ -186,15 +186,15 @@ module _ (e next : Evaluator) (answer : Both Settled) where
   passed_number v true h =
       let same : ◌≡◌ {A = Evaluator × Both Settled} (fed_with (held_of e) e.fed v, answer_of (held_of e) v) (next, answer) = cc in
       (refl, ap (λ (p : Evaluator × Both Settled). p.0) same, ap (λ (p : Evaluator × Both Settled). p.1) same)
-  passed_number v false h = let z : ◌≡◌ {A = ℕ} 0 1 = cc in absurd (omega arith)
+  passed_number v false h = absurd cc
 
   passed :
       (whole valid : Bool) (i : Option Interval) →
       cond whole (cond valid (step_with e i) (Err (refusal Fault.Field 0))) (Err (refusal Fault.Length 0)) ≡ Ok (next, answer) →
       (valid ≡ true) × (v : Interval) × (i ≡ Some v) × (eqb v.number e.fed ≡ true) × (fed_with (held_of e) e.fed v ≡ next) × (answer_of (held_of e) v ≡ answer)
-  passed false valid i h = let z : ◌≡◌ {A = ℕ} 0 1 = cc in absurd (omega arith)
-  passed true false i h = let z : ◌≡◌ {A = ℕ} 0 1 = cc in absurd (omega arith)
-  passed true true None h = let z : ◌≡◌ {A = ℕ} 0 1 = cc in absurd (omega arith)
+  passed false valid i h = absurd cc
+  passed true false i h = absurd cc
+  passed true true None h = absurd cc
   passed true true (Some v) h =
       let t = passed_number v (eqb v.number e.fed) h in
       (refl, v, refl, t.0, t.1, t.2)

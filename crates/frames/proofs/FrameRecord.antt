@@ -4,7 +4,6 @@ use mathlib.Core.Path.{◌≡◌, refl, subst}
 use mathlib.Core.Bool.{Bool, true, false, not, ◌||◌}
 use mathlib.Core.List.{List}
 use Prim.Native.Nat.{ℕ, ◌≤◌}
-use native.Mathlib.Omega.{arith}
 use lib.Dec.{eqb}
 use borrow.Author.Tests.{leb-true, eqb-true}
 use Rattle.std.specs.Prelude.{Some}
@@ -20,11 +19,11 @@ pub record FrameValid (f : Frame) : Type 0 where
 
 no_delay : (lost : Bool) (d : ℕ) → not lost || eqb d 0 ≡ true → lost ≡ true → d ≡ 0
 no_delay true d h e = eqb-true d 0 h
-no_delay false d h e = let z : ◌≡◌ {A = ℕ} 0 1 = cc in absurd (omega arith)
+no_delay false d h e = absurd cc
 
 taken_out : (t : Bool) (w v : Frame) → valid_if t w ≡ Some v → (t ≡ true) × (w ≡ v)
 taken_out true w v e = (refl, (cc))
-taken_out false w v e = let z : ◌≡◌ {A = ℕ} 0 1 = cc in absurd (omega arith)
+taken_out false w v e = absurd cc
 
 pub frame_valid : (s : List ℕ) (f : Frame) → frame_of s ≡ Some f → FrameValid f
 unfolding frame_of frame_rules

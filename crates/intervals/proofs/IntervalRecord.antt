@@ -103,7 +103,7 @@ interval_facts v e h =
 
 taken_out : (t : Bool) (w v : Interval) → valid_if t w ≡ Some v → (t ≡ true) × (w ≡ v)
 taken_out true w v e = (refl, (cc))
-taken_out false w v e = let z : ◌≡◌ {A = ℕ} 0 1 = cc in absurd (omega arith)
+taken_out false w v e = absurd cc
 
 pub interval_read : (s : List ℕ) (v : Interval) → interval_of s ≡ Some v → (all_met (interval_rules s) ≡ true) × (interval_in s ≡ v)
 unfolding interval_of

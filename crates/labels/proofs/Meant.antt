@@ -111,7 +111,7 @@ sound_numbers next place (Some v ∷ xs) e (suc k) h =
 
 -- what is refused is not written
 not_refused : {P : Type 0} {after out : List ℕ} {x : Refusal} → outcome (Ok tt) after ≡ outcome (Err x) out → P
-not_refused e = let told = ap (λ (o : Outcome). o.answer) e in let z : ◌≡◌ {A = ℕ} 0 1 = cc told in absurd (omega arith)
+not_refused e = let told = ap (λ (o : Outcome). o.answer) e in absurd (cc told)
 
 -- each test of the operation was passed, from the last one to the first
 module _ (s r out : List ℕ) (at : ℕ) (after : List ℕ) where

@@ -32,7 +32,7 @@ unfolding checked read_each
 checked_place zero s j next place x h e = absurd (never e)
   where
     never : ◌≡◌ {A = Result (Unit {0}) Refusal} (Ok tt) (Err x) → ⊥
-    never e = let z : ◌≡◌ {A = ℕ} 0 1 = cc in omega arith
+    never e = cc
 checked_place (suc m) s j next place x h e = by (interval_of (record_at s 48 j)) refl e (checked_place m s (suc j) (suc next) (suc place) x)
   where
     by :
@@ -54,7 +54,7 @@ labels_place s r out at x e = read (settings_of s) e
     no_place f e = let none : x.place ≡ 0 = cc in omega arith
 
     checks : (l : LabelSettings) (c : Result (Unit {0}) Refusal) → checked 0 0 (intervals_in r) ≡ c → (when_checked l r out at c).answer ≡ Err x → x.place ≤ intervals
-    checks l (Ok _) f e = absurd (let z : ◌≡◌ {A = ℕ} 0 1 = cc in (let n : ⊥ = omega arith in n))
+    checks l (Ok _) f e = absurd cc
     checks l (Err y) f e =
         let same : y ≡ x = cc in
         omega (arith, checked_place (length r / 48) r 0 0 0 x (omega arith) (f ∙ ap Err same))

@@ -175,7 +175,7 @@ Sound n fs = (length fs ≡ n) × AllDelays (λ d. d ≤ largest_delay) fs
 
 guarded : (b : Bool) (r : Refusal) (rest : Frames) (fs : List Frame) → unless b r rest ≡ sound fs → rest ≡ sound fs
 guarded true r rest fs e = e
-guarded false r rest fs e = let z : ◌≡◌ {A = ℕ} 0 1 = cc in absurd (omega arith)
+guarded false r rest fs e = absurd cc
 
 one_more :
     (f : Frame) (n : ℕ) (rest : Frames) (fs : List Frame) →
@@ -184,7 +184,7 @@ unfolding Sound AllDelays
 one_more f n (sound gs) fs h more e =
     let q : f ∷ gs ≡ fs = cc in
     subst (λ l. Sound (suc n) l) q (ap suc (more gs refl).0, (h, (more gs refl).1))
-one_more f n (faulty r) fs h more e = let z : ◌≡◌ {A = ℕ} 0 1 = cc in absurd (omega arith)
+one_more f n (faulty r) fs h more e = absurd cc
 
 sound_frames :
     (from to n place earliest k : ℕ) (s : List ℕ) (fs : List Frame) → frames_in from to place earliest (reads_from n s k) ≡ sound fs → Sound n fs
@@ -199,7 +199,7 @@ sound_frames from to (suc n) place earliest k s fs e =
         frames_in from to place earliest (r ∷ reads_from n s (suc k)) ≡ sound fs →
         ((time : ℕ) (gs : List Frame) → frames_in from to (suc place) time (reads_from n s (suc k)) ≡ sound gs → Sound n gs) →
         Sound (suc n) fs
-    by None read h more = let z : ◌≡◌ {A = ℕ} 0 1 = cc in absurd (omega arith)
+    by None read h more = absurd cc
     by (Some f) read h more =
         one_more f n (frames_in from to (suc place) (f.time + 1) (reads_from n s (suc k))) fs (frame_valid (record_at s 16 k) f read).delay_fact (more (f.time + 1))
         (guarded (leb earliest f.time) _ _ fs (guarded (leb from f.time && ltb f.time to) _ _ fs h))
@@ -210,7 +210,7 @@ ReadsBack : Interval → Type 0
 ReadsBack i = interval_of (interval_bytes i) ≡ Some i
 
 passed : (b : Bool) (f : Fault) (j : Result Interval Refusal) (i : Interval) → refuse_if b f j ≡ Ok i → (b ≡ false) × (j ≡ Ok i)
-passed true f j i e = let z : ◌≡◌ {A = ℕ} 0 1 = cc in absurd (omega arith)
+passed true f j i e = absurd cc
 passed false f j i e = (refl, e)
 
 frames_read_back :
@@ -221,7 +221,7 @@ frames_read_back l number flag n s i (sound fs) from to known few read e =
     let q : measured l number flag fs ≡ i = cc in
     let f = sound_frames from to n 0 0 0 s fs read in
     subst (λ v. ReadsBack v) q (measured_reads_back l number flag fs known (omega (arith, f.0)) f.1)
-frames_read_back l number flag n s i (faulty r) from to known few read e = let z : ◌≡◌ {A = ℕ} 0 1 = cc in absurd (omega arith)
+frames_read_back l number flag n s i (faulty r) from to known few read e = absurd cc
 
 judged_frames_read_back : (l : LabelSettings) (n number maintenance : ℕ) (s : List ℕ) (i : Interval) → judged_frames l n number maintenance s ≡ Ok i → ReadsBack i
 unfolding judged_frames
@@ -238,10 +238,10 @@ unfolding judged ReadsBack
 interval_reads_back settings s number maintenance len at i e = by_settings (settings_of settings) e
   where
     by_count : (v : Settings) (n : Option ℕ) (room : Bool) → judged_count v.label n room number maintenance s ≡ Ok i → ReadsBack i
-    by_count v None room h = let z : ◌≡◌ {A = ℕ} 0 1 = cc in absurd (omega arith)
-    by_count v (Some n) false h = let z : ◌≡◌ {A = ℕ} 0 1 = cc in absurd (omega arith)
+    by_count v None room h = absurd cc
+    by_count v (Some n) false h = absurd cc
     by_count v (Some n) true h = judged_frames_read_back v.label n number maintenance s i h
 
     by_settings : (r : Option Settings) → judged_settings r (has_room len at 48) number maintenance s ≡ Ok i → ReadsBack i
-    by_settings None h = let z : ◌≡◌ {A = ℕ} 0 1 = cc in absurd (omega arith)
+    by_settings None h = absurd cc
     by_settings (Some v) h = by_count v (count_of (length s) 16) (has_room len at 48) h

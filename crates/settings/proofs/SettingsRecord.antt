@@ -6,7 +6,6 @@ use mathlib.Core.Logic.{◌⊎◌, inl, inr}
 use mathlib.Core.Bool.{Bool, true, false, ◌&&◌, ◌||◌, not, and_assoc}
 use mathlib.Core.List.{List}
 use Prim.Native.Nat.{ℕ, ◌≤◌, ◌<◌}
-use native.Mathlib.Omega.{arith}
 use lib.ListN.{get_or}
 use lib.Dec.{leb, ltb, eqb}
 use borrow.Author.Tests.{leb-true, eqb-true, eq-eqb}
@@ -80,7 +79,7 @@ objectives_valid v l e =
 
 taken_out : (t : Bool) (w v : Settings) → valid_if t w ≡ Some v → (t ≡ true) × (w ≡ v)
 taken_out true w v e = (refl, (cc))
-taken_out false w v e = let z : ◌≡◌ {A = ℕ} 0 1 = cc in absurd (omega arith)
+taken_out false w v e = absurd cc
 
 pub settings_read : (s : List ℕ) (v : Settings) → settings_of s ≡ Some v → (all_met (settings_rules s) ≡ true) × (objectives_in (label_in s) s ≡ v)
 unfolding settings_of
