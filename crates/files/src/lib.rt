@@ -23,6 +23,7 @@ pub struct Answer {
 }
 
 // No intervals, at a number.
+#[tactic(auto, unfolding(summaries::specs::Made::made_of, tracks::specs::Tracks::summary, tracks::specs::Tracks::push_all))]
 fn nothing_at(l: LabelSettings, at: u32) -> Stretch
     ensures { result ≡ stretch (made_of l at []) }
 {
@@ -37,6 +38,7 @@ fn nothing_at(l: LabelSettings, at: u32) -> Stretch
 }
 
 // The report of a stretch with nothing before and nothing behind it.
+#[tactic(auto, unfolding(crate::specs::Files::alone_of))]
 fn alone(v: Summary) -> Period
     requires { Known v }
     ensures { result ≡ alone_of v }
@@ -60,6 +62,7 @@ fn judge(s: Settings, v: Summary) -> Answer
 }
 
 // What all that was fed of the file says, by the settings.
+#[tactic(auto, using(crate::proofs::Between::good_held))]
 pub fn conclude(settings: &[u8], state: State) -> Result<Answer, Refusal>
     requires { Growing state.held }
     ensures { result ≡ concluded_by (settings_of settings.now) (finished_by state.held state.left) }

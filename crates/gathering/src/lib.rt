@@ -14,9 +14,9 @@ ghost use Rattle.gathering.specs.Gathering.{gathered, onwards, toned, several_of
 use intervals::Interval;
 use labels::marks;
 use numbers::refusal::{Fault, Refusal};
+use rule::Both;
 use runs::middles::Middle;
 use runs::run;
-use rule::Both;
 use runs::run::{Edges, Lengths, Run};
 use settings::LabelSettings;
 use summaries::Summary;
@@ -38,6 +38,7 @@ fn run_of(mark: bool, v: Interval) -> Run
 }
 
 // A segment, kept as a run of high marks, as the run of a track that has this mark in it.
+#[tactic(auto, unfolding(crate::specs::Gathering::toned))]
 fn toned(mark: bool, g: Run) -> Run
     ensures { result ≡ toned mark g }
 {

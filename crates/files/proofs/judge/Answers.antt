@@ -4,6 +4,3 @@ use Rattle.files.proofs.judge.Goals as goal
 
 pub verdicts_of-requires : goal.verdicts_of-requires
 verdicts_of-requires c = rw c.alone-period.ensures (alone_judgeable c.args.s c.args.v c.requires)
-
-pub returns : goal.returns
-returns c = rw (c.verdicts_of.ensures, c.alone-period.ensures)
