@@ -9,7 +9,6 @@ use native.Mathlib.Omega.{arith}
 use Rattle.std.specs.Prelude.{Some, Result, Bool}
 use Rattle.numbers.specs.Limits.{intervals}
 use Rattle.numbers.specs.Many.{record_at}
-use Rattle.settings.specs.Settings.{label_meets}
 use Rattle.settings.specs.declared.LabelSettings.{LabelSettings}
 use Rattle.intervals.specs.Interval.{interval_of}
 use Rattle.intervals.specs.Sequence.{reads_from}
@@ -33,7 +32,7 @@ use Rattle.tracks.specs.Valid.{TrackValid, PushFits}
 use Rattle.tracks.proofs.Deciding.{beq_yes}
 use Rattle.tracks.proofs.Joining.{push_glue, push_many}
 use Rattle.tracks.proofs.Keeping.{push_valid}
-use Rattle.gathering.specs.Gathering.{onwards, toned, Held, Begun, Gone}
+use Rattle.gathering.specs.Gathering.{onwards, toned, Held, Begun}
 use Rattle.gathering.proofs.Gathering.{on_next}
 use Rattle.numbers.specs.declared.refusal.Refusal.{Refusal}
 use Rattle.summaries.specs.declared.Summary.{Summary}
@@ -196,23 +195,6 @@ pub going_begun :
 unfolding push
 going_begun l s n first start begun w =
     record { numbered = refl; few = omega (arith, w.known); held = held_begun l first start w; goes_on = refl }
-
--- a loop goes on from what another holds, and makes what that one is to make
-pub going_gone :
-    (l : LabelSettings) (s : List ℕ) (n first : ℕ) (a b : Track) (g : Run) (h : Both Bool) (next k : ℕ) → Gone l first a b g next k →
-    Going l s n first (of_rest l s n first a b g h next k) a b g h next k
-going_gone l s n first a b g h next k w = record { numbered = w.numbered; few = w.few; held = w.held; goes_on = refl }
-
-pub gone_going :
-    (l : LabelSettings) (s : List ℕ) (n first : ℕ) (x : Result Summary Refusal) (a b : Track) (g : Run) (h : Both Bool) (next k : ℕ) {a' b' : Track} →
-    Going l s n first x a b g h next k → label_meets l ≡ true → a ≡ a' → b ≡ b' → Gone l first a' b' g next k
-gone_going l s n first x a b g h next k w valid ea eb =
-    record { valid = valid; numbered = w.numbered; few = w.few; held = rw (← ea, ← eb) w.held }
-
-pub made_on :
-    (l : LabelSettings) (s : List ℕ) (n first : ℕ) (x : Result Summary Refusal) (a b : Track) (g : Run) (h : Both Bool) (next k : ℕ) {a' b' : Track} {r : (Result Summary Refusal)} →
-    Going l s n first x a b g h next k → a ≡ a' → b ≡ b' → r ≡ of_rest l s n first a' b' g h next k → r ≡ x
-made_on l s n first x a b g h next k w ea eb e = cc w.goes_on
 
 module _
     (l : LabelSettings) (s : List ℕ) (n first : ℕ) (x : Result Summary Refusal) (a b : Track) (g : Run) (h : Both Bool) (next k : ℕ)

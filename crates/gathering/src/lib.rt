@@ -38,6 +38,7 @@ fn run_of(mark: bool, v: Interval) -> Run
 }
 
 // A segment, kept as a run of high marks, as the run of a track that has this mark in it.
+#[tactic(auto, unfolding(crate::specs::Gathering::toned))]
 fn toned(mark: bool, g: Run) -> Run
     ensures { result ≡ toned mark g }
 {

@@ -1,5 +1,4 @@
--- `gathering::go_on` meets its contract: at each turn the laws of `Gathering` and `Segments` say what the record at k does. Once both
--- tracks are of several runs, `go_on_several` makes the rest.
+-- `gathering::go_on` meets its contract: at each turn the laws of `Gathering` and `Segments` say what the record at k does.
 use mathlib.Core.Path.{ap, sym, ◌∙◌}
 use native.Mathlib.Omega.{arith}
 use Rattle.std.specs.Prelude.{Err}
@@ -7,7 +6,7 @@ use Rattle.numbers.specs.Limits.{intervals}
 use Rattle.tracks.specs.Tracks.{push}
 use Rattle.gathering.specs.Gathering.{toned}
 use Rattle.gathering.proofs.Gathering.{on_done, on_invalid, on_disordered}
-use Rattle.gathering.proofs.Segments.{of_first, going_begun, gone_going, made_on, going_valid, going_room, going_longer, going_next, longer_fits, loss_fits, composite_fits}
+use Rattle.gathering.proofs.Segments.{of_first, going_begun, going_valid, going_room, going_longer, going_next, longer_fits, loss_fits, composite_fits}
 use Rattle.gathering.proofs.go_on.Goals as goal
 use Rattle.gathering.proofs.go_on.Goals.{then-m-high, else-m-high}
 
@@ -19,18 +18,6 @@ pub loop-k-init : goal.loop-k-init
 loop-k-init c =
     let a = c.args in
     going_begun a.l a.s.now a.n a.first a.start a.begun c.requires
-
-pub go_on_several-requires : goal.go_on_several-requires
-go_on_several-requires c =
-    let a = c.args in
-    let l = c.loop-k in
-    gone_going a.l a.s.now a.n a.first (of_first a.l a.s.now a.n a.first a.start a.begun) l.loss l.composite l.segment l.high l.next l.k l.invariant c.requires.valid c.in-Many.is c.in-Many-composite.is
-
-pub returns-in-Many-composite : goal.returns-in-Many-composite
-returns-in-Many-composite c =
-    let a = c.args in
-    let l = c.loop-k in
-    made_on a.l a.s.now a.n a.first (of_first a.l a.s.now a.n a.first a.start a.begun) l.loss l.composite l.segment l.high l.next l.k l.invariant c.in-Many.is c.in-Many-composite.is c.go_on_several.ensures
 
 pub returns-in_default-read_at : goal.returns-in_default-read_at
 returns-in_default-read_at c =
@@ -47,9 +34,6 @@ returns-then-v-next c =
     let e = sym c.read_at.ensures ∙ c.in-Some.is in
     ap Err c.at-then-v-next.ensures
     ∙ sym (l.invariant.goes_on ∙ on_disordered a.l a.first a.n l.k l.next a.s.now (push a.l.n a.l.p l.loss (toned l.high.loss l.segment)) (push a.l.n a.l.p l.composite (toned l.high.composite l.segment)) v c.loop-k-test.true e c.if-v-next.true)
-
-pub marks-m-requires : goal.marks-m-requires
-marks-m-requires c = c.requires.valid
 
 pub glue-segment-requires : goal.glue-segment-requires
 glue-segment-requires c =

@@ -9,14 +9,9 @@ use Rattle.tracks.specs.Tracks.{push}
 use Rattle.tracks.proofs.Fitting.{push_shuts, push_glues}
 use Rattle.gathering.specs.Gathering.{toned, several_of}
 use Rattle.gathering.proofs.Gathering.{on_done, on_invalid, on_disordered}
-use Rattle.gathering.proofs.Segments.{of_rest, going_gone, going_valid, going_room, going_longer, going_next, longer_fits, loss_fits, composite_fits, several_kept, several_next}
+use Rattle.gathering.proofs.Segments.{of_rest, going_valid, going_room, going_longer, going_next, longer_fits, loss_fits, composite_fits, several_kept, several_next}
 use Rattle.gathering.proofs.go_on_several.Goals as goal
 use Rattle.gathering.proofs.go_on_several.Goals.{then-now-high, else-now-high}
-
-pub loop-k-init : goal.loop-k-init
-loop-k-init c =
-    let a = c.args in
-    going_gone a.l a.s.now a.n a.first (several_of a.held.loss) (several_of a.held.composite) a.start a.begun a.from a.place c.requires
 
 pub returns-in_default : goal.returns-in_default
 returns-in_default c =
@@ -33,9 +28,6 @@ returns-then-v-due c =
     let e = sym c.read_at.ensures ∙ c.in-Some.is in
     ap Err c.at-then-v-due.ensures
     ∙ sym (l.invariant.goes_on ∙ on_disordered a.l a.first a.n l.k l.due a.s.now (push a.l.n a.l.p (Many a.held.loss.first l.loss l.loss_last) (toned l.high.loss l.segment)) (push a.l.n a.l.p (Many a.held.composite.first l.composite l.composite_last) (toned l.high.composite l.segment)) v c.loop-k-test.true e c.if-v-due.true)
-
-pub marks-now-requires : goal.marks-now-requires
-marks-now-requires c = c.requires.valid
 
 pub glue-segment-requires : goal.glue-segment-requires
 glue-segment-requires c =
