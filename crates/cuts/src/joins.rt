@@ -4,25 +4,18 @@ use cases::{circuit, lines};
 use numbers::bytes;
 use std::io;
 
-// The join of two, or zeros, in place of the first.
-fn append(held: &mut [u8; 1024], next: [u8; 1024]) {
+// The join of two, or zeros.
+fn joined(left: &[u8; 1024], right: &[u8; 1024]) -> [u8; 1024] {
     let mut out = [0u8; 1024];
-    let _ = joining::join(held, &next, &mut out, 0);
-    *held = out;
-}
-
-// The same in place of the second.
-fn prepend(held: &mut [u8; 1024], before: [u8; 1024]) {
-    let mut out = [0u8; 1024];
-    let _ = joining::join(&before, held, &mut out, 0);
-    *held = out;
+    let _ = joining::join(left, right, &mut out, 0);
+    out
 }
 
 // Each stretch of one interval behind what is held.
 fn from_left(circuit: &Circuit) -> [u8; 1024] {
     let mut held = circuit.summary(0, 0);
     for k in 0..circuit.count {
-        append(&mut held, circuit.summary(k, k + 1));
+        held = joined(&held, &circuit.summary(k, k + 1));
     }
     held
 }
@@ -31,7 +24,7 @@ fn from_left(circuit: &Circuit) -> [u8; 1024] {
 fn from_right(circuit: &Circuit) -> [u8; 1024] {
     let mut held = circuit.summary(circuit.count, circuit.count);
     for k in (0..circuit.count).rev() {
-        prepend(&mut held, circuit.summary(k, k + 1));
+        held = joined(&circuit.summary(k, k + 1), &held);
     }
     held
 }
@@ -40,15 +33,16 @@ fn from_right(circuit: &Circuit) -> [u8; 1024] {
 fn in_pairs(circuit: &Circuit) -> [u8; 1024] {
     let mut held = circuit.summary(0, 0);
     for k in 0..circuit.count / 2 {
-        let mut pair = circuit.summary(2 * k, 2 * k + 1);
-        append(&mut pair, circuit.summary(2 * k + 1, 2 * k + 2));
-        append(&mut held, pair);
+        let pair = joined(
+            &circuit.summary(2 * k, 2 * k + 1),
+            &circuit.summary(2 * k + 1, 2 * k + 2),
+        );
+        held = joined(&held, &pair);
     }
-    append(
-        &mut held,
-        circuit.summary(circuit.count / 2 * 2, circuit.count),
-    );
-    held
+    joined(
+        &held,
+        &circuit.summary(circuit.count / 2 * 2, circuit.count),
+    )
 }
 
 // Whether each is the whole, and the number after the last interval.

@@ -78,6 +78,7 @@ fn judge(v: Settings, list: &[u32]) -> Result<Figures, Refusal>
 pub fn delays(settings: &[u8], list: &[u32]) -> Result<Figures, Refusal>
     ensures { result ≡ outcome settings.now list.now }
 {
+    // `let .. else`: so document 01 has each record read taken apart.
     let Some(v) = settings::read(settings) else {
         return Err(Fault::Settings.at(0));
     };

@@ -179,6 +179,7 @@ fn feed(h: Held, fed: u64, v: Interval) -> (Evaluator, Answer)
     };
     let turned = held.zip_with(marks, |t, mark| rule::advance(n, t, mark));
     let next = held_by(l, fed + 1, turned.loss.track, turned.composite.track);
+    // by name, and no `zip_with`: the edit `count_invented` is of one of the two
     let answer = Both {
         loss: settled_by(turned.loss.count, marks.loss),
         composite: settled_by(turned.composite.count, marks.composite),
@@ -191,6 +192,7 @@ fn feed(h: Held, fed: u64, v: Interval) -> (Evaluator, Answer)
 pub fn start(s: &[u8]) -> Result<Evaluator, Refusal>
     ensures { result ≡ start_of s.now }
 {
+    // `let .. else`: so document 01 has each record read taken apart.
     let Some(v) = settings::read(s) else {
         return Err(Fault::Settings.at(0));
     };
@@ -210,6 +212,7 @@ pub fn step(e: Evaluator, r: &[u8]) -> Result<(Evaluator, Answer), Refusal>
         return Err(Fault::Length.at(0));
     }
     let h = held_in(e).ok_or(Fault::Field)?;
+    // `let .. else`: so document 01 has each record read taken apart.
     let Some(v) = intervals::read(r) else {
         return Err(Fault::Field.at(0));
     };

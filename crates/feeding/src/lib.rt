@@ -48,7 +48,8 @@ fn grow(v: Summary, s: &[u8]) -> Held
     }
 }
 
-// What is held after the records of `s`. After a fault nothing changes.
+// What is held after the records of `s`. After a fault nothing changes. `Growing` is a clause and no invariant of `Held`: a summary's laws speak of
+// any values, and what it knows of one names the bytes that it was read from, which nothing holds.
 #[tactic(auto, unfolding(crate::specs::Feeding::Growing))]
 fn take_in(held: Held, s: &[u8]) -> Held
     requires { Growing held }
@@ -66,6 +67,7 @@ fn take_in(held: Held, s: &[u8]) -> Held
 pub fn start(settings: &[u8]) -> State
     ensures { result ≡ begun settings.now }
 {
+    // `let .. else`: so document 01 has each record read taken apart.
     let Some(v) = settings::read(settings) else {
         return State {
             held: Held::Unset,

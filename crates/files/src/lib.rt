@@ -67,6 +67,7 @@ pub fn conclude(settings: &[u8], state: State) -> Result<Answer, Refusal>
     requires { Growing state.held }
     ensures { result ≡ concluded_by (settings_of settings.now) (finished_by state.held state.left) }
 {
+    // `let .. else`: so document 01 has each record read taken apart.
     let Some(s) = settings::read(settings) else {
         return Err(Fault::Settings.at(0));
     };

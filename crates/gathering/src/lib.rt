@@ -53,7 +53,9 @@ fn toned(mark: bool, g: Run) -> Run
 }
 
 // The summary of the `n` records of `s`, those before the `place`-th of which make two tracks of several runs and the segment `start` behind them;
-// or the first record that is at fault. The first runs stay as they are, so that a turn changes no more than the middles and the last runs.
+// or the first record that is at fault. The first runs stay as they are, so that a turn changes no more than the middles and the last runs: `go_on`
+// has the same turn over whole tracks, which it would copy each time. What it takes is no struct, as it's taken apart into the loop's variables at
+// once; `n` was counted by `gather`.
 fn go_on_several(
     l: LabelSettings,
     s: &[u8],
@@ -68,6 +70,7 @@ fn go_on_several(
     requires { Gone l first (several_of held.loss) (several_of held.composite) start from place }
     ensures { result ≡ onwards l first from place (push l.n l.p (several_of held.loss) (toned begun.loss start)) (push l.n l.p (several_of held.composite) (toned begun.composite start)) (reads_from (n - place) s.now place) }
 {
+    // written out: what a function gives is known by an equation, which the proofs above would have to carry
     let by = Lengths {
         n: l.n as u32,
         p: l.p as u32,
@@ -80,8 +83,10 @@ fn go_on_several(
     let mut composite_last = held.composite.last;
     let mut segment = start;
     let mut high = begun;
+    // counted beside `k`: it goes on as `after`
     let mut due = from;
     for k in place..n {
+        // `let .. else`: so document 01 has each record read taken apart.
         let Some(v) = intervals::read_at(s, k) else {
             return Err(Fault::Field.at(k as u64));
         };
@@ -90,6 +95,7 @@ fn go_on_several(
         }
         let x = run_of(true, v);
         let now = marks::marks(l, v);
+        // `&`, and no `==` of the two: nothing branches between them
         if (now.loss == high.loss) & (now.composite == high.composite) {
             segment = run::glue(by.p, segment, x);
         } else {
@@ -133,6 +139,7 @@ fn go_on(
     requires { Begun l first start }
     ensures { result ≡ onwards l first (first + 1) 1 (Track.One (toned begun.loss start)) (Track.One (toned begun.composite start)) (reads_from (n - 1) s.now 1) }
 {
+    // written out: what a function gives is known by an equation, which the proofs above would have to carry
     let by = Lengths {
         n: l.n as u32,
         p: l.p as u32,
@@ -141,6 +148,7 @@ fn go_on(
     let mut composite = Track::Nothing;
     let mut segment = start;
     let mut high = begun;
+    // counted beside `k`: it goes on as `after`
     let mut next = first + 1;
     for k in 1..n {
         let so_far = loss;
@@ -161,6 +169,7 @@ fn go_on(
                 return go_on_several(l, s, n, first, held, segment, high, next, k);
             }
         }
+        // `let .. else`: so document 01 has each record read taken apart.
         let Some(v) = intervals::read_at(s, k) else {
             return Err(Fault::Field.at(k as u64));
         };
@@ -203,6 +212,7 @@ pub fn gather(l: LabelSettings, s: &[u8], first: u32) -> Result<Summary, Refusal
             composite: Track::Nothing,
         });
     }
+    // `let .. else`: so document 01 has each record read taken apart.
     let Some(v) = intervals::read_at(s, 0) else {
         return Err(Fault::Field.at(0));
     };

@@ -27,6 +27,7 @@ fn words_of(f: Figures) -> [u64; 4]
 pub fn mip_delays(settings: &[u8], delays: &[u32], answers: &mut [u64]) -> u64
     ensures { Answers (delays_outcome settings.now delays.now answers.old) answers.old result answers.new }
 {
+    // `let .. else`: so document 01 has each record read taken apart.
     let Some(_) = settings::read(settings) else {
         return word::word(Fault::Settings.at(0));
     };

@@ -3,16 +3,16 @@
 -- Assumes nothing.
 use mathlib.Core.Path.{◌≡◌, refl, subst}
 use mathlib.Core.Logic.{◌⊎◌, inl, inr}
-use mathlib.Core.Bool.{Bool, true, false, cond, ◌&&◌, ◌||◌, and-eq-true_iff}
+use mathlib.Core.Bool.{Bool, true, false, cond, ◌&&◌, ◌||◌, and-eq-true_iff, and_assoc}
 use mathlib.Core.List.{List, ◌∷◌, ◌++◌}
 use Prim.Native.Nat.{ℕ, ◌*◌, ◌≤◌, ◌<◌}
 use native.Mathlib.Omega.{arith}
-use lib.ListN.{length}
+use lib.ListN.{length, get_or}
 use lib.Seq.{sets}
-use lib.Dec.{ltb, eqb}
-use borrow.Author.Tests.{leb-true, ltb-true, eqb-true, eqb-false}
+use lib.Dec.{leb, ltb, eqb}
+use borrow.Author.Tests.{leb-true, ltb-true, eqb-true, eqb-false, eq-eqb}
 use Rattle.std.specs.Prelude.{Some}
-use Rattle.numbers.specs.Bytes.{bytes_of}
+use Rattle.numbers.specs.Bytes.{bytes_of, number_at, are_zero}
 use Rattle.numbers.specs.Limits.{intervals, frames, largest_delay}
 use Rattle.numbers.specs.Rules.{all_met}
 use Rattle.intervals.specs.Interval.{
@@ -31,7 +31,19 @@ use Rattle.intervals.specs.Interval.{
   valid_if,
 }
 use Rattle.numbers.proofs.Rules.{rule_met}
+use Rattle.numbers.proofs.Words.{flag_number}
 use Rattle.intervals.specs.declared.Interval.{Interval}
+
+-- a flag of the code over 48 bytes is the flag of the rules
+pub by_rules :
+    (t : Bool) (s : List ℕ) {v : Interval} {a b : Bool} {x : ℕ} →
+    v ≡ interval_in s → a ≡ counts_meet v → b ≡ delays_meet v → x ≡ number_at 8 s 40 →
+    length s ≡ 48 → a && b && leb x 1 ≡ t → interval_of s ≡ valid_if t v
+unfolding interval_of interval_rules
+by_rules t s {a = a} {b = b} ev ea eb ex whole et =
+    let e : eqb (length s) 48 ≡ true = eq-eqb (length s) 48 whole in
+    let f : leb (number_at 8 s 40) 1 ≡ leb (get_or s 40 0) 1 && are_zero 7 s 41 = flag_number 7 s 40 in
+    cc (and_assoc (a && b) (leb (get_or s 40 0) 1) (are_zero 7 s 41))
 
 -- the facts of a valid interval; those on delays hold with nothing delivered too
 pub record IntervalValid (v : Interval) : Type 0 where

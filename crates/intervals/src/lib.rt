@@ -10,6 +10,8 @@ ghost use Rattle.intervals.specs.Interval.{interval_in, interval_of, count_bytes
 use numbers::refusal::{Fault, Refusal};
 use numbers::{bytes, known, limits, many};
 
+// An interval record's values, in its order. Settings, frames and summaries are read in the same three steps, length, values and rules: a trait for
+// them would be longer than the four readers.
 #[derive(Clone, Copy)]
 pub struct Interval {
     pub number: u32,
@@ -83,7 +85,7 @@ fn delays_meet(v: Interval) -> bool
 }
 
 // The interval in `s`, if it is 48 bytes and meets every rule. Maintenance and the spare bytes are one word, 0 or 1.
-#[tactic(auto, using(numbers::proofs::Words::flag_number), unfolding(crate::specs::Interval::interval_of, crate::specs::Interval::interval_rules))]
+#[tactic(auto, using(crate::proofs::IntervalRecord::by_rules), unfolding(crate::specs::Interval::interval_of, crate::specs::Interval::interval_rules))]
 pub fn read(s: &[u8]) -> Option<Interval>
     ensures { result ≡ interval_of s.now }
 {
@@ -145,6 +147,7 @@ pub fn check(s: &[u8], first: u64) -> Result<(), Refusal>
 {
     let mut next = first;
     for k in 0..s.len() / 48 {
+        // `let .. else`: so document 01 has each record read taken apart.
         let Some(v) = read_at(s, k) else {
             return Err(Fault::Field.at(k as u64));
         };

@@ -15,6 +15,7 @@ pub fn both(a: Summary, b: Summary) -> Summary
     requires { Adjoining a b }
     ensures { result ≡ joined_of a b }
 {
+    // written out: what a function gives is known by an equation, which the proofs above would have to carry
     let by = Lengths {
         n: a.label.n as u32,
         p: a.label.p as u32,
@@ -33,7 +34,8 @@ pub fn both(a: Summary, b: Summary) -> Summary
     }
 }
 
-// The summary of two adjoining stretches, written into 1,024 bytes of `out` from `at` on, or the refusal that goes before all others.
+// The summary of two adjoining stretches, written into 1,024 bytes of `out` from `at` on, or the refusal that goes before all others. A buffer and a
+// place in it: the C interface.
 #[tactic(auto, using(crate::proofs::Judging::steps), unfolding(crate::specs::Joining::judged))]
 pub fn join(left: &[u8], right: &[u8], out: &mut [u8], at: usize) -> Result<(), Refusal>
     ensures { Outcome left.now right.now out.old at result out.new }
@@ -47,6 +49,7 @@ pub fn join(left: &[u8], right: &[u8], out: &mut [u8], at: usize) -> Result<(), 
     if !room::has_room(out.len(), at, 1024) {
         return Err(Fault::Room.at(0));
     }
+    // `let .. else`: so document 01 has each record read taken apart.
     let Some(a) = summaries::read(left) else {
         return Err(Fault::Field.at(0));
     };

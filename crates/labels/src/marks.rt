@@ -9,7 +9,7 @@ use numbers::{bytes, limits, many};
 use rule::{Both, Counts};
 use settings::LabelSettings;
 
-// What the marks are made of.
+// What the marks are made of. No `From`: both types are another crate's.
 fn counts_of(v: Interval) -> Counts
     ensures { result ≡ counts_of v }
 {

@@ -114,11 +114,12 @@ fn write_at(l: LabelSettings, r: &[u8], n: usize, out: &mut [u8], at: usize) -> 
     Ok(())
 }
 
-// The label bytes of the stretch `r` of interval records from 0, written at `at` of `out`.
+// The label bytes of the stretch `r` of interval records from 0, written at `at` of `out`: the C interface has a buffer and a place in it.
 #[tactic(auto, using(crate::proofs::Placing::read_label, crate::proofs::Placing::counted), unfolding(crate::specs::Stretch::labels_of))]
 pub fn labels(s: &[u8], r: &[u8], out: &mut [u8], at: usize) -> Result<(), Refusal>
     ensures { outcome result out.new ≡ labels_of s.now r.now out.old at }
 {
+    // `let .. else`: so document 01 has each record read taken apart.
     let Some(v) = settings::read(s) else {
         return Err(Fault::Settings.at(0));
     };

@@ -1,4 +1,5 @@
-// A track read out of bytes: its values, and whether its words are ones that a writer makes.
+// A track read out of bytes: its values, and whether its words are ones that a writer makes. Bytes and a place in them, as in `writing`. The words for
+// a run's form, a label and a track's kind are the record's numbers, of types that are another crate's.
 ghost use Rattle.std.specs.Prelude.{◌≡◌, ◌+◌, ◌≤◌, length};
 ghost use Rattle.layout.specs.Reading.{load_in, figures_in, edges_in, run_in, label_in, middle_in, track_in, load_words, run_words, middle_words, words_meet};
 

@@ -6,7 +6,8 @@ ghost use Rattle.making.specs.Making.{Outcome};
 use numbers::refusal::{Fault, Refusal};
 use numbers::{limits, many, room};
 
-// The summary of the records, written into 1,024 bytes of `out` from `at` on, or the refusal that goes before all others.
+// The summary of the records, written into 1,024 bytes of `out` from `at` on, or the refusal that goes before all others. A buffer and a
+// place in it: the C interface.
 #[tactic(auto, using(crate::proofs::Answering::steps), unfolding(crate::specs::Making::made, numbers::specs::Limits::intervals))]
 pub fn summary(
     settings: &[u8],
@@ -17,6 +18,7 @@ pub fn summary(
 ) -> Result<(), Refusal>
     ensures { Outcome settings.now first intervals.now out.old at result out.new }
 {
+    // `let .. else`: so document 01 has each record read taken apart.
     let Some(v) = settings::read(settings) else {
         return Err(Fault::Settings.at(0));
     };

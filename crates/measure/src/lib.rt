@@ -97,8 +97,8 @@ fn finish(t: Tally, number: u32, maintenance: bool) -> Interval
     }
 }
 
-// The tally of the `n` frames in `s` (as they were counted: from the length it would be counted twice), with times from `from` to before `to`, or the first fault among
-// them.
+// The tally of the `n` frames in `s` (as they were counted: from the length it would be counted twice), with times from `from` to before `to`, or
+// the first fault among them. The two times and the two bounds on delays are numbers: only this function and `add` take them.
 #[tactic(auto, using(crate::proofs::Taking::take_ends))]
 fn take_frames(s: &[u8], n: usize, from: u64, to: u64, dl: u32, jt: u32) -> Result<Tally, Refusal>
     requires { (n ≤ frames) × (to < 2 ^ 63) }
@@ -108,6 +108,7 @@ fn take_frames(s: &[u8], n: usize, from: u64, to: u64, dl: u32, jt: u32) -> Resu
     let mut earliest: u64 = 0;
     for k in 0..n {
         let place = k as u64;
+        // `let .. else`: so document 01 has each record read taken apart.
         let Some(f) = frames::read(many::part(s, 16, k)) else {
             return Err(Fault::Field.at(place));
         };
@@ -127,7 +128,7 @@ fn take_frames(s: &[u8], n: usize, from: u64, to: u64, dl: u32, jt: u32) -> Resu
     Ok(t)
 }
 
-// The interval of the `n` frames in `s`, or the first refusal that is left where there is room.
+// The interval of the `n` frames in `s`, or the first refusal that is left where there is room. `n` was counted by `interval`.
 #[tactic(auto, using(crate::proofs::Judging::judged_steps), unfolding(crate::specs::Outcome::judged_frames, numbers::specs::Limits::frames, numbers::specs::Limits::intervals))]
 fn judge(
     l: LabelSettings,
@@ -154,7 +155,8 @@ fn judge(
     Ok(finish(t, number as u32, maintenance == 1))
 }
 
-// The interval record of the frames, written into 48 bytes of `out` from `at` on, or the refusal that goes before all others.
+// The interval record of the frames, written into 48 bytes of `out` from `at` on, or the refusal that goes before all others. A buffer and a
+// place in it: the C interface.
 #[tactic(auto, using(crate::proofs::Judging::written_whole), unfolding(crate::specs::Outcome::judged))]
 pub fn interval(
     settings: &[u8],
@@ -166,6 +168,7 @@ pub fn interval(
 ) -> Result<(), Refusal>
     ensures { Outcome settings.now frames.now number maintenance out.old at result out.new }
 {
+    // `let .. else`: so document 01 has each record read taken apart.
     let Some(v) = settings::read(settings) else {
         return Err(Fault::Settings.at(0));
     };

@@ -1,5 +1,6 @@
 -- The numbered refusals of document 01.
-use Rattle.std.specs.Prelude.{ℕ}
+use Rattle.std.specs.Prelude.{ℕ, List, ◌++◌, codes}
+use Rattle.std.specs.Fmt.{decimal}
 use Rattle.numbers.specs.declared.refusal.Fault.{Fault}
 use Rattle.numbers.specs.declared.refusal.Refusal.{Refusal}
 
@@ -18,3 +19,7 @@ number_of Fault.Pairs = 9
 -- a fault at a place
 abbrev pub refusal : Fault → ℕ → Refusal
 refusal f k = record { fault = f; place = k }
+
+-- a refusal as a text: the fault's number and the place
+abbrev pub refusal_text : Refusal → List ℕ
+refusal_text r = decimal (number_of r.fault) ++ (codes " " ++ decimal r.place)

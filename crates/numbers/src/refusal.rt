@@ -1,6 +1,6 @@
 // A refusal is a fault, which has document 01's number, and the place of the first faulty record, 0 where no record is at fault.
-ghost use Rattle.std.specs.Prelude.{◌≡◌};
-ghost use Rattle.numbers.specs.Refusals.{number_of, refusal};
+ghost use Rattle.std.specs.Prelude.{◌≡◌, Some};
+ghost use Rattle.numbers.specs.Refusals.{number_of, refusal, refusal_text};
 
 use std::error::Error;
 use std::fmt;
@@ -63,6 +63,8 @@ impl From<Fault> for Refusal {
 
 // Its number and its place.
 impl fmt::Display for Refusal {
+    ghost output = { λ r. Some (refusal_text r) };
+
     fn fmt<W: fmt::Write>(&self, f: &mut fmt::Formatter<W>) -> fmt::Result {
         write!(f, "{} {}", u64::from(self.fault), self.place)
     }

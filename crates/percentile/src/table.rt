@@ -52,7 +52,8 @@ fn width_of(s: u32) -> u32
     1 << s
 }
 
-// From 2,048 buckets of width 2^s to the one that holds rank k. The shift is a number: as a const parameter it was tried, and is no faster.
+// From 2,048 buckets of width 2^s to the one that holds rank k. The shift is a number: a const parameter is no plainer, with three instances of four functions
+// for three numbers.
 fn narrow(list: &[u32], from: Mark, s: u32, k: u32) -> Mark
     requires { (s < 32) × (length list.now < 2 ^ 32) × Front k list.now (2048 * 2 ^ s) from }
     ensures { Front k list.now (2 ^ s) result }

@@ -22,6 +22,7 @@ pub struct Stretch {
 pub fn read(s: &[u8]) -> Option<Stretch>
     ensures { result ≡ stretch_of s.now }
 {
+    // `let .. else`: so document 01 has each record read taken apart.
     let Some(held) = summaries::read(s) else {
         return None;
     };
@@ -71,6 +72,7 @@ pub fn period(left: Stretch, middle: Stretch, right: Stretch) -> Period
     let a = left.held;
     let b = middle.held;
     let c = right.held;
+    // written out: what a function gives is known by an equation, which the proofs above would have to carry
     let by = Lengths {
         n: b.label.n as u32,
         p: b.label.p as u32,
@@ -89,10 +91,6 @@ pub fn period(left: Stretch, middle: Stretch, right: Stretch) -> Period
         length,
         maintenance: length - tracks::count_in(loss_b),
         loss,
-        composite: ByLabel {
-            available: composite.available.count,
-            unavailable: composite.unavailable,
-            undecided: composite.undecided.count,
-        },
+        composite: composite.map(|t| t.count),
     }
 }

@@ -55,7 +55,7 @@ fn words_of(v: Verdicts) -> [u64; 6]
     ]
 }
 
-// A refusal of this fault, at no record.
+// A refusal of this fault, at no record: seven ways out have one.
 fn refused(fault: Fault) -> u64
     ensures { result ≡ word_of (refusal fault 0) }
 {
@@ -82,11 +82,12 @@ pub fn mip_report(summaries: &[u8], figures: &mut [u64]) -> u64
     }
 }
 
-// The verdicts of a set of pairs, three summaries each.
+// The verdicts of a set of pairs, three summaries each. `sets::verdicts` makes the first four tests too: room is asked after them and before the records.
 #[tactic(auto, using(sets::proofs::Places::verdicts_place), unfolding(crate::specs::ReportList::verdicts_told, sets::specs::Sets::judged_of, sets::specs::Sets::unless, numbers::specs::Limits::pairs))]
 pub fn mip_verdicts(settings: &[u8], pairs: u64, summaries: &[u8], answers: &mut [u64]) -> u64
     ensures { VerdictsLeft settings.now pairs summaries.now answers.old result answers.new }
 {
+    // `let .. else`: so document 01 has each record read taken apart.
     let Some(_) = settings::read(settings) else {
         return refused(Fault::Settings);
     };

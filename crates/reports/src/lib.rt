@@ -23,7 +23,7 @@ fn suited(wanted: Option<LabelSettings>, a: Stretch) -> bool
     }
 }
 
-// Whether two summaries have the same label settings.
+// Whether two summaries have the same label settings: a function, so that the law of `==` is named once.
 #[tactic(auto, using(settings::proofs::SettingsRecord::derived_same))]
 fn alike(a: Stretch, b: Stretch) -> bool
     ensures { result ≡ same_label (label_of a) (label_of b) }
@@ -93,6 +93,7 @@ pub fn three_at(wanted: Option<LabelSettings>, s: &[u8], base: usize) -> Result<
     ensures { result ≡ three_at wanted s.now base }
 {
     let first = base as u64;
+    // `let .. else`: so document 01 has each record read taken apart.
     let Some(a) = summary_at(s, base) else {
         return Err(Fault::Field.at(first));
     };

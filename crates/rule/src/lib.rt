@@ -28,7 +28,8 @@ impl<T> Both<T> {
     }
 }
 
-// What a running evaluator keeps of one track: the last label that it settled, and how many marks behind it speak against it.
+// What a running evaluator keeps of one track: the last label that it settled, and how many marks behind it speak against it. That these are
+// fewer than n is no invariant of it: n is the settings'.
 #[derive(Clone, Copy)]
 pub struct Track {
     pub label: bool,
@@ -86,7 +87,7 @@ pub fn can_hold(n: u64, fed: u64, t: Track) -> bool
     pending <= fed
 }
 
-// What the marks of an interval are made of.
+// What the marks of an interval are made of. `Interval` and `measure::Tally` have these five too, among others and in the order of the record.
 #[derive(Clone, Copy)]
 pub struct Counts {
     pub sent: u32,

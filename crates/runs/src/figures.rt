@@ -83,7 +83,7 @@ pub fn plus(a: Figures, b: Figures) -> Figures
     }
 }
 
-// As they are reported, with the least delay for the headroom.
+// As they are reported, with the least delay for the headroom. By a name and no `From`: it changes what a value means.
 #[tactic(auto, unfolding(crate::specs::Figures::reported))]
 pub fn reported(f: Figures) -> Totals
     ensures { result ≡ reported f }

@@ -15,7 +15,8 @@ pub struct Lengths {
 }
 
 // Where maintenance splits the counted intervals of a run of high marks. Solid: nowhere, and all of them count. Split: how many touch
-// the left end, how many stretches of length p or more touch neither end, and how many touch the right end.
+// the left end, how many stretches of length p or more touch neither end, and how many touch the right end. No bound is an invariant: a record's
+// words are read into it before `track_rules` tests them.
 #[derive(Clone, Copy)]
 pub enum Edges {
     Solid(u32),

@@ -29,6 +29,7 @@ fn of_pairs(v: Settings, s: &[u8], n: usize) -> Result<Verdicts, Refusal>
 pub fn verdicts(settings: &[u8], pairs: u64, summaries: &[u8]) -> Result<Verdicts, Refusal>
     ensures { result ≡ judged_of settings.now pairs summaries.now }
 {
+    // `let .. else`: so document 01 has each record read taken apart.
     let Some(v) = settings::read(settings) else {
         return Err(Fault::Settings.at(0));
     };

@@ -60,7 +60,7 @@ pub fn label_in(s: &[u8]) -> LabelSettings
     }
 }
 
-// Whether label settings meet document 01's rules.
+// Whether label settings meet document 01's rules. A test and no invariant of the type: a record's words, and an evaluator's, are read into it before they are tested.
 #[tactic(auto, unfolding(crate::specs::Settings::label_meets, crate::specs::Settings::label_rules, numbers::specs::Limits::largest_delay, numbers::specs::Limits::million))]
 pub fn label_meets(l: LabelSettings) -> bool
     ensures { result ≡ label_meets l }

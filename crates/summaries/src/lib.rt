@@ -20,7 +20,7 @@ pub struct Summary {
     pub composite: Track,
 }
 
-// The values that stand in 1,024 bytes.
+// The values that stand in 1,024 bytes. They are a part of a longer buffer here and in `put`, so a slice with its length in a clause, and no array.
 #[tactic(auto, unfolding(crate::specs::Stored::summary_in))]
 fn summary_in(s: &[u8]) -> Summary
     requires { length s.now ≡ 1024 }
@@ -55,6 +55,7 @@ fn header_meets(s: &[u8], v: Summary) -> bool
 fn tracks_meet(v: Summary) -> bool
     ensures { result ≡ tracks_meet v }
 {
+    // written out: what a function gives is known by an equation, which the proofs above would have to carry
     let by = Lengths {
         n: v.label.n as u32,
         p: v.label.p as u32,

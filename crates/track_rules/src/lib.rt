@@ -97,7 +97,7 @@ pub fn run_meets(p: u32, r: Run) -> bool
     (1 <= r.len) & (r.load.count <= r.len) & load_meets(r.load) & edges_meet(p, r)
 }
 
-// Whether a load has nothing.
+// Whether a load has nothing. Field by field, as the definition's rules are.
 #[tactic(auto, unfolding(crate::specs::Meets::idle_load))]
 fn idle_load(l: Load) -> bool
     ensures { result ≡ idle_load l }
@@ -110,7 +110,7 @@ fn idle_load(l: Load) -> bool
         & (l.headroom == 0)
 }
 
-// Whether figures have nothing.
+// Whether figures have nothing, likewise.
 #[tactic(auto, unfolding(crate::specs::Meets::no_figures))]
 fn no_figures(f: Figures) -> bool
     ensures { result ≡ no_figures f }

@@ -4,7 +4,7 @@ ghost use Rattle.words.specs.Word.{word_of};
 
 use numbers::refusal::Refusal;
 
-// The word of a refusal.
+// The word of a refusal. Not of a whole answer: the bound on the place would be asked of a `Result`, and say more than the two arms that it saves.
 #[tactic(auto, using(crate::proofs::Faults::number_most))]
 pub fn word(r: Refusal) -> u64
     requires { r.place < 2 ^ 32 }
