@@ -56,6 +56,7 @@ fn grouped(rt: &impl Print, circuit: &Circuit) -> io::Result<()> {
 }
 
 // Letters, n and p.
+#[inline(never)]
 pub fn line(rt: &impl Print, case: &[u8]) -> io::Result<()> {
     let letters = lines::word(case, 1);
     rt.write_all(lines::rest(case, 1))?;
@@ -67,6 +68,7 @@ pub fn line(rt: &impl Print, case: &[u8]) -> io::Result<()> {
 }
 
 // No records from the number that is the fourth word on.
+#[inline(never)]
 pub fn none(rt: &impl Print, case: &[u8]) -> io::Result<()> {
     let s = circuit::settings(3, 2);
     let mut out = [0u8; 1024];

@@ -10,7 +10,8 @@ mod stretches;
 use cases::{lines, printing};
 use std::io;
 
-// One case. An enum of the cases would be a second list of them beside this one.
+// One case. An enum of the cases would be a second list of them beside this one. None is inlined, so that the stack holds the arrays
+// of one at a time.
 fn one(rt: &impl Print, case: &[u8]) -> io::Result<()> {
     match lines::letter(case, 0) {
         b't' => printing::line(rt, lines::rest(case, 1)),

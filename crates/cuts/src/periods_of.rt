@@ -46,6 +46,7 @@ pub fn show_set(rt: &impl Print, s: &[u8], pairs: u64, summaries: &[u8]) -> io::
 }
 
 // n, p, letters, a and b: the report of the intervals from the `a`-th on to before the `b`-th, and its verdicts.
+#[inline(never)]
 pub fn line(rt: &impl Print, case: &[u8]) -> io::Result<()> {
     let s = circuit::settings_at(case, 1);
     let circuit = Circuit::new(s, lines::word(case, 3));
@@ -74,6 +75,7 @@ fn with_field(p: u8, at: usize, value: u32) -> [u8; 64] {
 }
 
 // p, a field's place in settings, letters, the field's name and its value: the verdicts on all of the intervals.
+#[inline(never)]
 pub fn objective(rt: &impl Print, case: &[u8]) -> io::Result<()> {
     let s = with_field(
         lines::get_u8(case, 1),

@@ -6,6 +6,7 @@ use numbers::bytes;
 use std::io;
 
 // Available 15 of 17; the fifth word is the objective.
+#[inline(never)]
 pub fn fifteen_of_seventeen(rt: &impl Print, case: &[u8]) -> io::Result<()> {
     let mut s = circuit::settings(2, 0);
     bytes::put_u32(&mut s, 24, lines::get_u32(case, 5));
@@ -15,6 +16,7 @@ pub fn fifteen_of_seventeen(rt: &impl Print, case: &[u8]) -> io::Result<()> {
 
 // An objective's place in settings, the letters of two pairs, the objective's name and its value; the others are 0: the verdicts of both, the whole of each one's letters
 // the period.
+#[inline(never)]
 pub fn two(rt: &impl Print, case: &[u8]) -> io::Result<()> {
     let mut s = circuit::settings(3, 2);
     bytes::put_u32(&mut s, lines::get_usize(case, 1), lines::get_u32(case, 5));
@@ -55,6 +57,7 @@ fn said(case: &[u8]) -> [u8; 6144] {
 }
 
 // What the report of the first of two pairs and the verdicts of both give. With one or more of the six summaries at fault, that is the refusal and its place.
+#[inline(never)]
 pub fn places(rt: &impl Print, case: &[u8]) -> io::Result<()> {
     let six = said(case);
     printing::head(rt, lines::rest(case, 1))?;
@@ -65,6 +68,7 @@ pub fn places(rt: &impl Print, case: &[u8]) -> io::Result<()> {
 }
 
 // A number of pairs that is refused, or does not fit the bytes.
+#[inline(never)]
 pub fn pairs(rt: &impl Print, case: &[u8]) -> io::Result<()> {
     let count = lines::get_u64(case, 1);
     print!(rt; " {count}")?;

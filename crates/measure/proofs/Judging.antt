@@ -24,7 +24,7 @@ use Rattle.measure.proofs.Tallies.{tally_measured}
 use Rattle.measure.specs.declared.Tally.{Tally}
 
 -- the interval of a tally
-abbrev of_taken : ℕ → Bool → Result Tally Refusal → Result Interval Refusal
+abbrev pub of_taken : ℕ → Bool → Result Tally Refusal → Result Interval Refusal
 of_taken number maintenance (Ok t) = Ok (finished number maintenance t)
 of_taken number maintenance (Err r) = Err r
 

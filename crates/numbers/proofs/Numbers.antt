@@ -1,14 +1,29 @@
--- Laws of little-endian numbers, over the width: both round trips, parts one after the other, what is put reads as the value, and places past the end.
+-- Laws of little-endian numbers, over the width: both round trips, what a number and its bytes are in two parts, what is put reads as the value, and what lies past the end.
 -- Assumes nothing.
 use mathlib.Core.Path.{◌≡◌, refl, ap, sym, ◌∙◌}
 use mathlib.Core.List.{List, [], ◌∷◌, ◌++◌}
 use Prim.Native.Nat.{ℕ, zero, suc, min, ◌+◌, ◌*◌, ◌/◌, ◌%◌, ◌^◌, ◌≤◌, ◌<◌}
-use native.Mathlib.Nat.{min-eq_left, le-min, pow-succ'}
+use native.Mathlib.Nat.{min-eq_left, le-min, pow-suc, pow-succ', mul_assoc, div-div-eq-div-mul}
 use native.Mathlib.Omega.{arith}
 use native.Mathlib.Decide.{dec_le}
+use lib.Arith.{mod-mul}
 use lib.ListN.{length, get_or, set, take, drop, length-set, get_or-eq_default, drop_of_length-le}
 use lib.Seq.{sets, set_out, drop-cons, get_or-set_same, get_or-set_other}
 use Rattle.numbers.specs.Bytes.{number, bytes_of, part, number_at, Bytes}
+
+-- what lies past the end reads as 0, and is not written
+
+pub read_past : (w : ℕ) (s : List ℕ) (i : ℕ) → length s ≤ i → number_at w s i ≡ 0
+unfolding number_at number part
+read_past zero s i h = refl
+read_past (suc w) s i h =
+    let first : get_or s i 0 ≡ 0 = get_or-eq_default s 0 h in
+    let rest : number (part w s (suc i)) ≡ 0 = read_past w s (suc i) (omega arith) in
+    omega arith
+
+pub sets_past : (vs l : List ℕ) (i : ℕ) → length l ≤ i → sets l i vs ≡ l
+sets_past [] l i h = refl
+sets_past (v ∷ vs) l i h = rw (set_out l i v h) (sets_past vs l (suc i) (omega arith))
 
 -- two parts, one after the other
 
@@ -21,6 +36,19 @@ sets_append (u ∷ us) vs l i =
 -- the power of one byte more
 pow_next : (w : ℕ) → 256 ^ suc w ≡ 256 * 256 ^ w
 pow_next w = pow-succ' 256 w
+
+positive : (w : ℕ) → 0 < 256 ^ w
+positive zero = omega arith
+positive (suc w) = let p : 0 < 256 ^ w = positive w in rw pow_next (omega arith)
+
+pub number_append : (us vs : List ℕ) → number (us ++ vs) ≡ number us + 256 ^ length us * number vs
+unfolding number
+number_append [] vs = omega arith
+number_append (u ∷ us) vs =
+    let e : number (us ++ vs) ≡ number us + 256 ^ length us * number vs = number_append us vs in
+    let p : 256 ^ suc (length us) * number vs ≡ 256 * (256 ^ length us * number vs) =
+    ap (λ (k : ℕ). k * number vs) (pow_next (length us)) ∙ mul_assoc 256 (256 ^ length us) (number vs) in
+    omega arith
 
 pub part_append : (v w : ℕ) (s : List ℕ) (i : ℕ) → part (v + w) s i ≡ part v s i ++ part w s (i + v)
 unfolding part
@@ -40,6 +68,28 @@ unfolding part
 length_part zero s i = refl
 length_part (suc w) s i = ap suc (length_part w s (suc i))
 
+pub bytes_append : (v w x : ℕ) → bytes_of (v + w) x ≡ bytes_of v x ++ bytes_of w (x / 256 ^ v)
+unfolding bytes_of
+bytes_append zero w x =
+    let z : 0 + w ≡ w = omega arith in
+    let e : x / 256 ^ 0 ≡ x = omega arith in
+    rw (z, e)
+bytes_append (suc v) w x =
+    let z : suc v + w ≡ suc (v + w) = omega arith in
+    let e : x / 256 / 256 ^ v ≡ x / 256 ^ suc v = div-div-eq-div-mul x 256 (256 ^ v) ∙ ap (λ (k : ℕ). x / k) (sym (pow_next v)) in
+    rw z (ap (λ (l : List ℕ). x % 256 ∷ l) (bytes_append v w (x / 256) ∙ ap (λ (k : ℕ). bytes_of v (x / 256) ++ bytes_of w k) e))
+
+-- the lowest bytes do not see what stands above them
+pub bytes_of_rest : (w x : ℕ) → bytes_of w (x % 256 ^ w) ≡ bytes_of w x
+unfolding bytes_of
+bytes_of_rest zero x = refl
+bytes_of_rest (suc w) x =
+    let e : x % 256 ^ suc w ≡ (x / 256 % 256 ^ w) * 256 + x % 256 =
+    ap (λ (k : ℕ). x % k) (pow-suc 256 w) ∙ mod-mul x (positive w) (omega arith) in
+    let m : x % 256 ^ suc w % 256 ≡ x % 256 = omega arith in
+    let d : x % 256 ^ suc w / 256 ≡ x / 256 % 256 ^ w = omega arith in
+    rw (m, d) (ap (λ (l : List ℕ). x % 256 ∷ l) (bytes_of_rest w (x / 256)))
+
 -- both round trips
 
 pub number_of_bytes : (w x : ℕ) → x < 256 ^ w → number (bytes_of w x) ≡ x
@@ -58,6 +108,20 @@ bytes_of_number (b ∷ bs) h =
     let d : (b + 256 * number bs) / 256 ≡ number bs = omega arith in
     let m : (b + 256 * number bs) % 256 ≡ b = omega arith in
     rw (d, m) (ap (λ (l : List ℕ). b ∷ l) (bytes_of_number bs (λ i. h (suc i))))
+
+-- the number in two parts of a slice
+
+pub number_at_halves : (v w : ℕ) (s : List ℕ) (i : ℕ) → number_at (v + w) s i ≡ number_at v s i + 256 ^ v * number_at w s (i + v)
+unfolding number_at
+number_at_halves v w s i =
+    ap number (part_append v w s i)
+    ∙ number_append (part v s i) (part w s (i + v))
+    ∙ ap (λ (k : ℕ). number (part v s i) + 256 ^ k * number (part w s (i + v))) (length_part v s i)
+
+-- a number put as its `v` lowest bytes and then the `w` above them
+pub sets_halves : (v w : ℕ) (l : List ℕ) (i x : ℕ) → sets (sets l i (bytes_of v (x % 256 ^ v))) (i + v) (bytes_of w (x / 256 ^ v)) ≡ sets l i (bytes_of (v + w) x)
+sets_halves v w l i x =
+    rw (bytes_append v w x, sets_append, length_bytes, bytes_of_rest)
 
 -- a part of bytes is bytes, and the part from 0 that is as long as the whole is the whole
 

@@ -7,7 +7,7 @@ use Rattle.percentile.specs.Ranks.{Ranked, Drawn, EndOrListed, Chosen}
 use Rattle.percentile.proofs.Counts.{at_most_below, below_mono}
 use Rattle.percentile.proofs.Percentile.{listed_here}
 
-spread_most : (i n : ℕ) → i < 16384 → i * n ≤ 16383 * n
+pub spread_most : (i n : ℕ) → i < 16384 → i * n ≤ 16383 * n
 spread_most i n h = mul-le-mul_right n (omega arith)
 
 pub spread_within : (i n : ℕ) → i < 16384 → 0 < n → i * n / 16384 < n
